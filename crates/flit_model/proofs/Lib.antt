@@ -1,1 +1,4 @@
 pub mod Legal
+pub mod HistoryLaws
+pub mod CrashLaws
+pub mod SettlingLaws
