@@ -8,6 +8,8 @@ mod histories;
 mod images;
 mod machine;
 mod maps;
+#[cfg(test)]
+mod tests;
 
 pub use calls::{Ahead, Call, Entry, Item, Outcome, Placed, Reply, Tally, Work};
 pub use crash_images::{images_untagged, nothing_taken, taken_by_write_backs};
