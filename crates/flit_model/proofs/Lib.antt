@@ -1,1 +1,11 @@
 pub mod Legal
+pub mod Counting
+pub mod Rising
+pub mod Membership
+pub mod Chains
+pub mod TreeShapes
+pub mod FixedRows
+pub mod Pairs
+pub mod LookUps
+pub mod Shapes
+pub mod FreshImages
