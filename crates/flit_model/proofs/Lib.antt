@@ -2,3 +2,13 @@ pub mod Legal
 pub mod HistoryLaws
 pub mod CrashLaws
 pub mod SettlingLaws
+pub mod Counting
+pub mod Rising
+pub mod Membership
+pub mod Chains
+pub mod TreeShapes
+pub mod FixedRows
+pub mod Pairs
+pub mod LookUps
+pub mod Shapes
+pub mod FreshImages
