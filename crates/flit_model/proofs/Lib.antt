@@ -1,4 +1,5 @@
 pub mod Legal
+pub mod Elements
 pub mod Counting
 pub mod Rising
 pub mod Membership
@@ -9,3 +10,4 @@ pub mod Pairs
 pub mod LookUps
 pub mod Shapes
 pub mod FreshImages
+pub mod Agreeing
