@@ -1,0 +1,40 @@
+//! The program: hands the words of the command line, standard input and standard output to the command, and says on
+//! standard error why a command did not end well.
+#![tactic(auto)]
+
+use flit_cli::{Status, StdSink, StdSource, Words, flit_step};
+use std::process::ExitCode;
+use std::rt::Env;
+use std::{env, io};
+
+/// The words of the command line behind the program's name.
+fn words_of(rt: &(impl Env + AllocGlobal)) -> Result<Words, Status> {
+    let given = env::args(rt).map_err(|error| match error.kind() {
+        io::ErrorKind::OutOfMemory => Status::NoMemory,
+        _ => Status::Usage,
+    })?;
+    let mut words = Words::new(rt.alloc());
+    for word in given.skip(1) {
+        words.push(word.as_str()).map_err(|_| Status::NoMemory)?;
+    }
+    Ok(words)
+}
+
+fn run(rt: &(impl Env + Input + Print + AllocGlobal)) -> Status {
+    match words_of(rt) {
+        Ok(words) => {
+            let mut source = StdSource::new(rt.reader());
+            let mut sink = StdSink::new(io::writer(rt));
+            flit_step(rt.alloc(), &words, &mut source, &mut sink)
+        }
+        Err(status) => status,
+    }
+}
+
+fn main(rt: HostRuntime) -> ExitCode {
+    let status = run(&rt);
+    if status != Status::Done {
+        let _ = eprintln!(rt; "flit: {status}");
+    }
+    ExitCode::from(status.code())
+}

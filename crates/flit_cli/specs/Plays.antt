@@ -1,0 +1,64 @@
+-- Inserts of keys by one worker into a list of so many rows, played on a map. Each is answered as the map object
+-- answers it, but Full, with the number of rows as its ticket, where the key isn't there and each row has a key.
+use Rattle.std.specs.Prelude.{◌≡◌, ℕ, suc, ◌-◌, ◌==◌, ◌&&◌, not, Bool, true, false, List, [], ◌∷◌, ◌++◌, if◌then◌else◌}
+use Rattle.std.specs.FinMap as map
+use Rattle.flit_model.specs.declared.calls.Call.{Call}
+use Rattle.flit_model.specs.declared.calls.Call.TheVariants.{Insert}
+use Rattle.flit_model.specs.declared.calls.Reply.{Reply}
+use Rattle.flit_model.specs.declared.calls.Reply.TheVariants.{Full}
+use Rattle.flit_model.specs.declared.calls.Outcome.TheVariants.{Replied}
+use Rattle.flit_model.specs.declared.calls.Entry.{Entry}
+use Rattle.flit_model.specs.Maps.{Map, reply_of, map_after}
+use Rattle.flit_report.specs.declared.content.Line.{Line}
+use Rattle.flit_report.specs.Content.{Content, text_of}
+
+abbrev pub insert_of : ℕ → Call
+insert_of key = Insert key 0
+
+-- the key isn't there, and no row is left for it
+abbrev pub has_no_row : ℕ → Map → ℕ → Bool
+has_no_row rows m key = not (map.contains_key m key) && (map.len m == rows)
+
+-- what an insert is answered, and the map after it
+abbrev pub reply_within : ℕ → Map → ℕ → Reply
+reply_within rows m key = if has_no_row rows m key then Full rows else reply_of m (insert_of key)
+
+abbrev pub map_within : ℕ → Map → ℕ → Map
+map_within rows m key = if has_no_row rows m key then m else map_after m (insert_of key)
+
+-- the lines of the calls, one after the other, and the map after all of them
+abbrev pub call_of : ℕ → Reply → Line
+call_of key reply = record { worker = 1; call = insert_of key; outcome = Replied reply }
+
+abbrev pub lines_within : ℕ → Map → List ℕ → List Line
+lines_within rows m [] = []
+lines_within rows m (key ∷ keys) = call_of key (reply_within rows m key) ∷ lines_within rows (map_within rows m key) keys
+
+abbrev pub map_after_keys : ℕ → Map → List ℕ → Map
+map_after_keys rows m [] = m
+map_after_keys rows m (key ∷ keys) = map_after_keys rows (map_within rows m key) keys
+
+-- the calls that are completed, with their numbers, the next call having number n
+abbrev pub completed_from : ℕ → ℕ → Map → List ℕ → List Entry
+completed_from n rows m [] = []
+completed_from n rows m (key ∷ keys) =
+    (if has_no_row rows m key then [] else record { worker = 1; number = n; call = insert_of key; reply = reply_of m (insert_of key) } ∷ [])
+    ++ completed_from (suc n) rows (map_within rows m key) keys
+
+-- what the report of these inserts tells, from the empty map on
+abbrev pub report_of : ℕ → List ℕ → Content
+report_of rows keys = record {
+  summary = false;
+  version = 1;
+  events = [];
+  lines = lines_within rows map.empty keys;
+  history = [];
+  tallies = [];
+  keys = map.keys (map_after_keys rows map.empty keys);
+  values = [];
+  free = rows - map.len (map_after_keys rows map.empty keys);
+}
+
+-- the text of that report
+abbrev pub output_of : ℕ → List ℕ → List ℕ
+output_of rows keys = text_of (report_of rows keys)

@@ -1,0 +1,4 @@
+pub mod Sayings
+pub mod Faulty
+pub mod Inserts
+pub mod PlainTraces
