@@ -51,15 +51,20 @@ fn next_said(text: &[u8]) -> Result<(&[u8], &[u8]), TraceError>
 
 /// What a line has behind these words.
 fn behind<'a>(line: &'a [u8], words: &[u8]) -> Option<&'a [u8]>
-    ensures { MatchOption result ((rest : List ℕ) → line.now ≢ words.now ++ rest) (λ rest. line.now ≡ words.now ++ rest.now) }
+    ensures { MatchOption result
+        ((rest : List ℕ) → line.now ≢ words.now ++ rest)
+        (λ rest. line.now ≡ words.now ++ rest.now) }
 {
     line.strip_prefix(words)
 }
 
 /// The number that a line has behind these words, between `least` and `most`.
 fn number_behind(line: &[u8], words: &[u8], least: u32, most: u32) -> Option<u32>
-    ensures some { IfSome result (λ n. (line.now ≡ words.now ++ decimal n) × (least ≤ n) × (n ≤ most)) }
-    ensures none { IfNone result ((n : ℕ) → least ≤ n → n ≤ most → line.now ≢ words.now ++ decimal n) }
+    ensures some { IfSome result (λ n. line.now ≡ words.now ++ decimal n) }
+    ensures least { IfSome result (λ n. least ≤ n) }
+    ensures most { IfSome result (λ n. n ≤ most) }
+    ensures none { IfNone result ((n : ℕ) → least ≤ n → n ≤ most →
+        line.now ≢ words.now ++ decimal n) }
 {
     let digits = behind(line, words)?;
     let number = number_of(digits)?;
@@ -73,7 +78,8 @@ fn number_behind(line: &[u8], words: &[u8], least: u32, most: u32) -> Option<u32
 /// The text behind the next line, which has to say these words.
 pub fn behind_words<'a>(text: &'a [u8], words: &[u8]) -> Result<&'a [u8], TraceError>
     ensures ok { IfOk result (λ rest. BeginsWith text.now words.now rest.now) }
-    ensures err { IfErr result (IsFault ((says : List (List ℕ)) → ¬ Says text.now (words.now ∷ says))) }
+    ensures err { IfErr result (IsFault ((says : List (List ℕ)) →
+        ¬ Says text.now (words.now ∷ says))) }
 {
     let (line, behind) = next_said(text)?;
     if line == words { Ok(behind) } else { Err(BAD) }
@@ -81,8 +87,11 @@ pub fn behind_words<'a>(text: &'a [u8], words: &[u8]) -> Result<&'a [u8], TraceE
 
 /// How many rows the next line says there are, from 1 to 1048575, and the text behind it.
 pub fn rows_in(text: &[u8]) -> Result<(u32, &[u8]), TraceError>
-    ensures ok { IfOk result (λ p. BeginsWith text.now (rows_line p.0) p.1.now × (1 ≤ p.0) × (p.0 ≤ 1048575)) }
-    ensures err { IfErr result (IsFault ((rows : ℕ) (says : List (List ℕ)) → 1 ≤ rows → rows ≤ 1048575 → ¬ Says text.now (rows_line rows ∷ says))) }
+    ensures ok { IfOk result (λ p. BeginsWith text.now (rows_line p.0) p.1.now) }
+    ensures least { IfOk result (λ p. 1 ≤ p.0) }
+    ensures most { IfOk result (λ p. p.0 ≤ 1048575) }
+    ensures err { IfErr result (IsFault ((rows : ℕ) (says : List (List ℕ)) →
+        1 ≤ rows → rows ≤ 1048575 → ¬ Says text.now (rows_line rows ∷ says))) }
 {
     let (line, behind) = next_said(text)?;
     match number_behind(line, b"rows ", 1, MOST_ROWS) {
@@ -93,18 +102,22 @@ pub fn rows_in(text: &[u8]) -> Result<(u32, &[u8]), TraceError>
 
 /// The key that a line inserts, at most 4294967292.
 fn key_in(line: &[u8]) -> Result<u32, TraceError>
-    ensures ok { IfOk result (λ key. (line.now ≡ insert_line key) × (key ≤ 4294967292)) }
-    ensures err { IfErr result (IsFault ((key : ℕ) → key ≤ 4294967292 → line.now ≢ insert_line key)) }
+    ensures ok { IfOk result (λ key. line.now ≡ insert_line key) }
+    ensures most { IfOk result (λ key. key ≤ 4294967292) }
+    ensures err { IfErr result (IsFault ((key : ℕ) → key ≤ 4294967292 →
+        line.now ≢ insert_line key)) }
 {
     number_behind(line, b"1 insert ", 0, MOST_KEY).ok_or(BAD)
 }
 
-/// The keys of the lines up to `end`, at most 1048576, each of which inserts one. Nothing follows `end`.
+/// The keys of the lines up to `end`, at most 1048576, each of which inserts one.
+/// Nothing follows `end`.
 pub fn keys_in(alloc: Global, text: &[u8]) -> Result<Vec<u32>, TraceError>
     ensures says { IfOk result (λ keys. Says text.now (map insert_line keys.items)) }
     ensures within { IfOk result (λ keys. AreKeys keys.items) }
     ensures calls { IfOk result (λ keys. length keys.items ≤ 1048576) }
-    ensures err { IfErr result (IsFault ((keys : List ℕ) → AreKeys keys → length keys ≤ 1048576 → ¬ Says text.now (map insert_line keys))) }
+    ensures err { IfErr result (IsFault ((keys : List ℕ) → AreKeys keys → length keys ≤ 1048576 →
+        ¬ Says text.now (map insert_line keys))) }
 {
     let mut keys = Vec::new(alloc);
     let mut rest = text;

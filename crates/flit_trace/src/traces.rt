@@ -36,7 +36,9 @@ impl<'a> Model for Trace<'a> {
 /// `NoMemory` comes where there is none for the keys.
 pub fn read_trace<'a>(alloc: Global, bytes: &'a [u8]) -> Result<Trace<'a>, TraceError>
     ensures ok { IfOk result (λ t. IsPlain bytes.now t.rows t.keys) }
-    ensures err { IfErr result (IsFault ((rows : ℕ) (keys : List ℕ) → ¬ IsPlain bytes.now rows keys)) }
+    // No error but want of memory comes where there is a reading.
+    ensures err { IfErr result (IsFault ((rows : ℕ) (keys : List ℕ) →
+        ¬ IsPlain bytes.now rows keys)) }
 {
     if bytes.len() > MOST_BYTES {
         return Err(TraceError::BadLine { line: 0 });
@@ -96,6 +98,7 @@ impl Trace<'_> {
 
 /// No bytes can be read as two plain traces.
 pub fn one_reading()
-    ensures rows { (bytes : List ℕ) (rows other_rows : ℕ) (keys other_keys : List ℕ) → IsPlain bytes rows keys → IsPlain bytes other_rows other_keys → rows ≡ other_rows }
-    ensures keys { (bytes : List ℕ) (rows other_rows : ℕ) (keys other_keys : List ℕ) → IsPlain bytes rows keys → IsPlain bytes other_rows other_keys → keys ≡ other_keys }
+    ensures { (bytes : List ℕ) (rows other_rows : ℕ) (keys other_keys : List ℕ) →
+        IsPlain bytes rows keys → IsPlain bytes other_rows other_keys →
+        (rows ≡ other_rows) × (keys ≡ other_keys) }
 {}

@@ -36,11 +36,10 @@ returns-in_err-key_in-clause-err c =
 pub loop-keys-preserved : goal.loop-keys-preserved
 loop-keys-preserved c =
     let key = c.in_ok-key_in.field-0 in
-    let inserted = c.in_ok-key_in.ensures.ok in
     let pushed : c.push.new.self.items ≡ c.loop-keys.keys.items ++ key ∷ [] = c.in_ok-push.ensures.items in
     let few : length c.loop-keys.keys.items < 1048576 = grind arith in
     record {
-      inserts = rw pushed (InsertsUpTo-more _ _ _ _ _ key c.loop-keys.invariant.inserts c.in_ok-line.ensures.ok inserted.0 inserted.1);
-      within = rw pushed (AllByRecursion-append _ _ _ c.loop-keys.invariant.within (inserted.1, tt));
+      inserts = rw pushed (InsertsUpTo-more _ _ _ _ _ key c.loop-keys.invariant.inserts c.in_ok-line.ensures.ok c.in_ok-key_in.ensures.ok c.in_ok-key_in.ensures.most);
+      within = rw pushed (AllByRecursion-append _ _ _ c.loop-keys.invariant.within (c.in_ok-key_in.ensures.most, tt));
       calls = rw pushed (simp length-append (omega arith));
     }

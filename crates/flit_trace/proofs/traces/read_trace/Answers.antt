@@ -30,7 +30,7 @@ returns-in_err-rest-3-clause-err c =
     rw (p.1, p.2) (IsFault-weaker _ (λ none rows keys plain.
     let first = says_first _ _ _ _ _ c.in_ok-rest.ensures.ok (says_plain _ rows keys plain) in
     let second = says_first _ _ _ _ _ c.in_ok-rest-2.ensures.ok first.1 in
-    let third = says_first _ _ _ _ _ c.in_ok-rows.ensures.ok.0 second.1 in
+    let third = says_first _ _ _ _ _ c.in_ok-rows.ensures.ok second.1 in
     none _ third.1) c.in_err-rest-3.ensures.err)
 
 pub returns-in_err-keys-clause-err : goal.returns-in_err-keys-clause-err
@@ -39,12 +39,12 @@ returns-in_err-keys-clause-err c =
     rw (p.1, p.2) (IsFault-weaker _ (λ none rows keys plain.
     let first = says_first _ _ _ _ _ c.in_ok-rest.ensures.ok (says_plain _ rows keys plain) in
     let second = says_first _ _ _ _ _ c.in_ok-rest-2.ensures.ok first.1 in
-    let third = says_first _ _ _ _ _ c.in_ok-rows.ensures.ok.0 second.1 in
+    let third = says_first _ _ _ _ _ c.in_ok-rows.ensures.ok second.1 in
     let fourth = says_first _ _ _ _ _ c.in_ok-rest-3.ensures.ok third.1 in
     none keys plain.within plain.calls fourth.1) c.in_err-keys.ensures.err)
 
 pub returns-clause-ok : goal.returns-clause-ok
 returns-clause-ok c =
-    plain_from_says _ _ _ c.if-bytes-gt-MOST_BYTES.false c.in_ok-rows.ensures.ok.1 c.in_ok-rows.ensures.ok.2 c.in_ok-keys.ensures.within c.in_ok-keys.ensures.calls
+    plain_from_says _ _ _ c.if-bytes-gt-MOST_BYTES.false c.in_ok-rows.ensures.least c.in_ok-rows.ensures.most c.in_ok-keys.ensures.within c.in_ok-keys.ensures.calls
     (says_more _ _ _ _ c.in_ok-rest.ensures.ok (says_more _ _ _ _ c.in_ok-rest-2.ensures.ok
-    (says_more _ _ _ _ c.in_ok-rows.ensures.ok.0 (says_more _ _ _ _ c.in_ok-rest-3.ensures.ok c.in_ok-keys.ensures.says))))
+    (says_more _ _ _ _ c.in_ok-rows.ensures.ok (says_more _ _ _ _ c.in_ok-rest-3.ensures.ok c.in_ok-keys.ensures.says))))
