@@ -1,3 +1,5 @@
+ghost use Rattle.std.specs.Prelude.{◌≤◌};
+
 use super::*;
 use crate::mem_sink::MemSink;
 use crate::mem_source::MemSource;
