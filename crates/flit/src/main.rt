@@ -1,8 +1,8 @@
-//! The program: hands the words of the command line, standard input and standard output to the command, and says on
+//! The program: hands the words of the command line, standard input and standard output to the commands, and says on
 //! standard error why a command did not end well.
 #![tactic(auto)]
 
-use flit_cli::{Status, StdSink, StdSource, Words, flit_step};
+use flit_cli::{Status, StdSink, StdSource, Words, flit_recover, flit_step};
 use std::process::ExitCode;
 use std::rt::Env;
 use std::{env, io};
@@ -20,14 +20,17 @@ fn words_of(rt: &(impl Env + AllocGlobal)) -> Result<Words, Status> {
     Ok(words)
 }
 
+/// Runs the command that the words name. A command that they don't name reads nothing.
 fn run(rt: &(impl Env + Input + Print + AllocGlobal)) -> Status {
-    match words_of(rt) {
-        Ok(words) => {
-            let mut source = StdSource::new(rt.reader());
-            let mut sink = StdSink::new(io::writer(rt));
-            flit_step(rt.alloc(), &words, &mut source, &mut sink)
-        }
-        Err(status) => status,
+    let words = match words_of(rt) {
+        Ok(words) => words,
+        Err(status) => return status,
+    };
+    let mut source = StdSource::new(rt.reader());
+    let mut sink = StdSink::new(io::writer(rt));
+    match flit_recover(rt.alloc(), &words, &mut source, &mut sink) {
+        Status::Usage => flit_step(rt.alloc(), &words, &mut source, &mut sink),
+        status => status,
     }
 }
 

@@ -1,3 +1,4 @@
 pub mod Taking
 pub mod PlayLaws
+pub mod InputLaws
 pub mod StepLaws

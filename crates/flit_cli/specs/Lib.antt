@@ -4,4 +4,6 @@ pub mod Outside
 pub mod Standard
 pub mod Plays
 pub mod Statuses
+pub mod Writing
 pub mod Stepping
+pub mod Recovering

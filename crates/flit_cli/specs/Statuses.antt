@@ -1,16 +1,14 @@
 -- How a command ends, and the exit status that stands for it.
-use Rattle.std.specs.Prelude.{ℕ, List, ◌++◌, codes}
-use Rattle.std.specs.Fmt.{decimal}
-use Rattle.flit_trace.specs.declared.faults.Bound.{Bound}
-use Rattle.flit_trace.specs.declared.faults.Bound.TheVariants.{Bytes, Rows, Workers, Calls, Buckets, Slots, Versions, Events}
+use Rattle.std.specs.Prelude.{ℕ}
 use Rattle.flit_cli.specs.declared.status.Status.{Status}
-use Rattle.flit_cli.specs.declared.status.Status.TheVariants.{Done, Usage, BadTrace, Limit, ReadFault, WriteFault, NoMemory}
+use Rattle.flit_cli.specs.declared.status.Status.TheVariants.{Done, Usage, BadTrace, Limit, BadImage, ReadFault, WriteFault, NoMemory}
 
 abbrev pub code_of : Status → ℕ
 code_of Done = 0
 code_of Usage = 2
 code_of (BadTrace line) = 3
 code_of (Limit line limit) = 4
+code_of (BadImage fault) = 5
 code_of ReadFault = 6
 code_of WriteFault = 7
 code_of NoMemory = 8
@@ -21,6 +19,7 @@ WritesNothing Done = ⊥
 WritesNothing Usage = Unit {0}
 WritesNothing (BadTrace line) = Unit {0}
 WritesNothing (Limit line limit) = Unit {0}
+WritesNothing (BadImage fault) = Unit {0}
 WritesNothing ReadFault = Unit {0}
 WritesNothing WriteFault = ⊥
 WritesNothing NoMemory = Unit {0}

@@ -2,10 +2,12 @@
 //! line.
 #![tactic(auto)]
 
+mod input;
 mod mem_sink;
 mod mem_source;
 mod outside;
 mod plays;
+mod recover;
 mod standard;
 mod status;
 mod step;
@@ -18,7 +20,8 @@ pub use mem_sink::MemSink;
 pub use mem_source::MemSource;
 pub use outside::{Failed, Sink, Source};
 pub use plays::plays_are_legal;
+pub use recover::flit_recover;
 pub use standard::{StdSink, StdSource};
-pub use status::Status;
+pub use status::{ImageFault, Status};
 pub use step::flit_step;
 pub use word_list::Words;

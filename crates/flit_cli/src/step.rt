@@ -1,13 +1,16 @@
 ghost use Rattle.std.specs.Prelude.{◌≡◌, ◌≢◌, ℕ, ◌≤◌, [], Some, IfOk, IfErr, IfSome, OnOk, ◌↔◌};
 ghost use Rattle.flit_trace.specs.declared.faults.Bound.{Bound};
+ghost use Rattle.flit_cli.specs.declared.status.ImageFault.{ImageFault};
 ghost use Rattle.flit_cli.specs.Outside.{Rose};
 ghost use Rattle.flit_cli.specs.Statuses.{WritesNothing};
-ghost use Rattle.flit_cli.specs.Stepping.{step_words, IsNoTrace, IsReportOf, Stepped, SteppedShort, IsStepFault};
+ghost use Rattle.flit_cli.specs.Stepping.{step_words, IsNoTrace, IsReportOf, IsStepFault};
+ghost use Rattle.flit_cli.specs.Writing.{Wrote, WroteFront};
 
+use crate::input::{InputError, read_input};
 use crate::outside::{Sink, Source};
 use crate::plays::report_of_inserts;
 use crate::status::Status;
-use crate::whole::{ReadError, read_all, write_all};
+use crate::whole::write_all;
 use crate::word_list::Words;
 use flit_report::report_text;
 use flit_trace::{TraceError, read_trace};
@@ -15,9 +18,6 @@ use std::alloc::Global;
 
 #[cfg(test)]
 mod tests;
-
-/// One more byte than an input may have.
-const PAST_MOST_BYTES: usize = 268435457;
 
 /// The report of the plain trace that the bytes are.
 fn report_of_trace(alloc: Global, bytes: &[u8]) -> Result<Vec<u8>, Status>
@@ -37,17 +37,18 @@ fn report_of_trace(alloc: Global, bytes: &[u8]) -> Result<Vec<u8>, Status>
     report_text(alloc, &report).map_err(|_| Status::NoMemory)
 }
 
-/// The report of the plain trace that the source has.
+/// The report of the plain trace that the source has. More bytes than an input may have are no plain trace.
 fn report_of_source<S: Source>(alloc: Global, source: &mut S) -> Result<Vec<u8>, Status>
     ensures text { IfOk result (λ text. IfSome (S.left source.old) (λ input. IsReportOf input text.items)) }
     ensures ended { OnOk result (IfSome (S.left source.old) (λ _. S.left source.new ≡ Some [])) }
     ensures fault { IfErr result (IsStepFault (Rose (S.faults source.old) (S.faults source.new)) (IfSome (S.left source.old) IsNoTrace)) }
     ensures never_falls { S.faults source.old ≤ S.faults source.new }
 {
-    match read_all(alloc, source, PAST_MOST_BYTES) {
+    match read_input(alloc, source) {
         Ok(bytes) => report_of_trace(alloc, &bytes),
-        Err(ReadError::Fault) => Err(Status::ReadFault),
-        Err(ReadError::NoMemory) => Err(Status::NoMemory),
+        Err(InputError::Fault) => Err(Status::ReadFault),
+        Err(InputError::TooLong) => Err(Status::BadTrace { line: 0 }),
+        Err(InputError::NoMemory) => Err(Status::NoMemory),
     }
 }
 
@@ -63,14 +64,15 @@ pub fn flit_step<S: Source, K: Sink>(
 ) -> Status
     ensures usage { (result ≡ Status.Usage) ↔ (words.now ≢ step_words) }
     ensures unread { result ≡ Status.Usage → source.new ≡ source.old }
-    ensures done { result ≡ Status.Done → IfSome (S.left source.old) (λ input. Stepped input (S.left source.new) (K.taken sink.old) (K.taken sink.new)) }
+    ensures done { result ≡ Status.Done → IfSome (S.left source.old) (λ input. Wrote (IsReportOf input) (S.left source.new) (K.taken sink.old) (K.taken sink.new)) }
 
     // The bytes are no plain trace exactly where this comes, as the clauses done and cut say of the rest.
     ensures bad_trace { (line : ℕ) → result ≡ Status.BadTrace line → (line ≡ 0) × IfSome (S.left source.old) IsNoTrace }
     ensures no_limit { (line : ℕ) (limit : Bound) → result ≢ Status.Limit line limit }
+    ensures no_image { (fault : ImageFault) → result ≢ Status.BadImage fault }
     ensures read_fault { result ≡ Status.ReadFault → Rose (S.faults source.old) (S.faults source.new) }
     ensures write_fault { result ≡ Status.WriteFault → Rose (K.faults sink.old) (K.faults sink.new) }
-    ensures cut { result ≡ Status.WriteFault → IfSome (S.left source.old) (λ input. SteppedShort input (S.left source.new) (K.taken sink.old) (K.taken sink.new)) }
+    ensures cut { result ≡ Status.WriteFault → IfSome (S.left source.old) (λ input. WroteFront (IsReportOf input) (S.left source.new) (K.taken sink.old) (K.taken sink.new)) }
     ensures unwritten { WritesNothing result → sink.new ≡ sink.old }
 {
     if !words.is(&["step"]) {

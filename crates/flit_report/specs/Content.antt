@@ -69,3 +69,10 @@ whole_text c =
 -- the text of a report
 unfoldable pub text_of : Content → List ℕ
 text_of c = if c.summary then summary_text c else whole_text c
+
+-- the text of a recovery; the values show for an image with values alone
+unfoldable pub recovery_lines : Bool → List ℕ → List ℕ → List ℕ → List ℕ
+recovery_lines valued keys values unreached =
+    numbers_line (codes "keys") keys
+    ++ (if valued then numbers_line (codes "values") values else [])
+    ++ numbers_line (codes "unreached") unreached

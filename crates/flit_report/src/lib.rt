@@ -22,6 +22,7 @@
 
 mod content;
 mod lines;
+mod recovery;
 mod summary;
 #[cfg(test)]
 mod tests;
@@ -29,4 +30,5 @@ mod text;
 mod words;
 
 pub use content::{Line, Report, Shown};
+pub use recovery::recovery_text;
 pub use text::report_text;

@@ -26,8 +26,8 @@ fn write_whole(out: &mut String, report: &Report) -> Result<(), AllocError>
     write_number(out, "free", u64::from(report.free))
 }
 
-/// The text of the report, in ASCII, as the crate's first page says. NoMemory comes where there is
-/// not memory enough for it.
+/// The text of the report, in ASCII, line by line; or its summary. NoMemory comes where there is not memory enough
+/// for it.
 #[tactic(auto, unfolding(crate::specs::Content::text_of))]
 pub fn report_text(alloc: Global, report: &Report) -> Result<Vec<u8>, NoMemory>
     ensures { IfOk result (λ text. text.items ≡ text_of (content_of report.now)) }

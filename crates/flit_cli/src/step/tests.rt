@@ -3,6 +3,9 @@ ghost use Rattle.std.specs.Prelude.{◌≤◌};
 use super::*;
 use crate::mem_sink::MemSink;
 use crate::mem_source::MemSource;
+use crate::status::ImageFault;
+use flit_image::ImageError;
+use flit_recover::Damage;
 use std::test::Fail;
 
 const ONE_INSERT: &[u8] = b"flit 1\nstructure list\nrows 4\nworkers 1\n1 insert 5\nend\n";
@@ -123,11 +126,17 @@ fn statuses_have_their_codes_and_lines(rt: HostRuntime) -> Result<(), Fail> {
         line: 3,
         limit: flit_trace::Bound::Rows,
     };
+    let bad_text = Status::BadImage(ImageFault::Text(ImageError::BadLine { line: 7 }));
+    let bad_header = Status::BadImage(ImageFault::Text(ImageError::BadHeader));
+    let damaged = Status::BadImage(ImageFault::Damage(Damage::Shared { row: 5 }));
     let all = [
         (Status::Done, 0, "done"),
         (Status::Usage, 2, "usage"),
         (Status::BadTrace { line: 6 }, 3, "bad trace at line 6"),
         (limit, 4, "limit rows at line 3"),
+        (bad_text, 5, "bad image: text 2 line 7"),
+        (bad_header, 5, "bad image: text 1"),
+        (damaged, 5, "bad image: damage 5 at 5"),
         (Status::ReadFault, 6, "read fault"),
         (Status::WriteFault, 7, "write fault"),
         (Status::NoMemory, 8, "no memory"),

@@ -1,4 +1,4 @@
-use Rattle.std.proofs.Common.{◌≡◌, ℕ, Bool, true, false, sym, ◌∙◌, ap}
+use Rattle.std.proofs.Common.{sym, ◌∙◌, ap}
 use Rattle.std.specs.FinMap as fin
 use Rattle.flit_model.specs.declared.calls.Reply.TheVariants.{Full}
 use Rattle.flit_cli.proofs.PlayLaws.{contains-lookup, entries-inserted, reply_here, map_here, reply_full, map_full, reply_new, map_new, len_is, len_is_not}

@@ -1,4 +1,4 @@
-use Rattle.std.proofs.Common.{refl, arith, sym, ◌∙◌, ap, map, ◌-◌}
+use Rattle.std.proofs.Common.{refl, arith, ◌∙◌, ap, map, ◌-◌}
 use Rattle.flit_cli.proofs.PlayLaws.{played_none, played_more, played_all, played_fits, same_report}
 use Rattle.flit_cli.proofs.plays.report_of_inserts.Goals as goal
 

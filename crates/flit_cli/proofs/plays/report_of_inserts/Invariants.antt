@@ -1,4 +1,3 @@
-use Rattle.std.proofs.Common.{◌≡◌, ℕ}
 use Rattle.flit_cli.proofs.PlayLaws.{HasPlayed}
 use Rattle.flit_cli.proofs.plays.report_of_inserts.Given as goal
 

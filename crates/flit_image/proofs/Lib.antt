@@ -1,0 +1,13 @@
+pub mod Cuts
+pub mod WordTexts
+pub mod HeaderLines
+pub mod LinesSoFar
+pub mod BodyFaults
+pub mod Sizes
+pub mod Writings
+pub mod ViewLines
+pub mod LiftedWords
+pub mod OneReading
+pub mod OneImage
+pub mod FaultLaws
+pub mod BothWays

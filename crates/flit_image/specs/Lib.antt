@@ -1,0 +1,4 @@
+pub mod Images
+pub mod ImageTexts
+pub mod Readings
+pub mod Views

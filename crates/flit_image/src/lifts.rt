@@ -1,0 +1,36 @@
+ghost use Rattle.std.specs.Prelude.{◌≡◌, ◌++◌, false, replicate, IfOk};
+ghost use Rattle.flit_image.specs.Images.{IsWhole, IsLifted};
+
+use crate::images::Image;
+use flit_words::NoMemory;
+use std::alloc::Global;
+
+/// These words, and a 0 for each row behind them.
+fn with_zeros(alloc: Global, words: &[u64], rows: u32) -> Result<Vec<u64>, NoMemory>
+    ensures { IfOk result (λ all. all.items ≡ words.now ++ replicate rows 0) }
+{
+    let mut all = Vec::from_slice(alloc, words)?;
+    all.reserve(rows as usize)?;
+    for _row in 0..rows {
+        all.push(0)?;
+    }
+    Ok(all)
+}
+
+/// The image with a value of 0 for each row.
+pub fn lift(alloc: Global, image: &Image) -> Result<Image, NoMemory>
+    requires whole { IsWhole image.now }
+    requires bare { image.now.values ≡ false }
+    ensures whole { IfOk result IsWhole }
+    ensures is { IfOk result (IsLifted image.now) }
+{
+    let last = image.layout().last_row();
+    let words = with_zeros(alloc, image.words.as_slice(), last)?;
+    Ok(Image {
+        kind: image.kind,
+        buckets: image.buckets,
+        rows: image.rows,
+        values: true,
+        words,
+    })
+}

@@ -1,0 +1,13 @@
+pub mod TreeEdges
+pub mod TreeLaws
+pub mod TreeWork
+pub mod TreeSteps
+pub mod ListSteps
+pub mod ListLaws
+pub mod ListWalking
+pub mod SortedPairs
+pub mod MarkedRows
+pub mod Recoveries
+pub mod FirstDamages
+pub mod TreeRecoveries
+pub mod TreeDamages

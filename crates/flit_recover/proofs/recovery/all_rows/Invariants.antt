@@ -1,0 +1,7 @@
+use Rattle.std.proofs.Common.{◌≡◌, ◌≤◌, ◌-◌}
+use Rattle.std.specs.List.{range_with_len}
+use Rattle.flit_words.specs.Layouts.{first_row_of}
+use Rattle.flit_recover.proofs.recovery.all_rows.Given as goal
+
+abbrev pub invariant-loop-row : goal.invariant-loop-row
+invariant-loop-row l = (first_row_of l.layout.kind ≤ l.row) × (l.rows.items ≡ range_with_len (first_row_of l.layout.kind) (l.row - first_row_of l.layout.kind))

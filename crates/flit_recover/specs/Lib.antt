@@ -1,0 +1,6 @@
+pub mod ListWalks
+pub mod TreeWalks
+pub mod TreeFinds
+pub mod Damages
+pub mod Marks
+pub mod Copies
