@@ -21,6 +21,8 @@ pub use faults::ImageError;
 pub use images::Image;
 pub use laws::{both_ways, image_or_fault, one_image};
 pub use lifts::lift;
+pub use pieces::{behind, cut_at};
 pub use reading::read_image;
 pub use views::{ImageView, view_image};
+pub use word_lines::word_line_of;
 pub use writing::write_image;

@@ -3,7 +3,7 @@ ghost use Rattle.std.specs.Fmt.{decimal};
 
 use flit_words::number_of;
 
-/// What a line has behind these words.
+/// What a line has behind these words. None comes where it does not begin with them.
 pub fn behind<'a>(line: &'a [u8], words: &[u8]) -> Option<&'a [u8]>
     ensures { MatchOption result ((rest : List ℕ) → line.now ≢ words.now ++ rest) (λ rest. line.now ≡ words.now ++ rest.now) }
 {
@@ -33,7 +33,7 @@ fn first_place(text: &[u8], byte: u8) -> Option<usize>
     text.iter().position(|here| *here == byte)
 }
 
-/// The parts of a text before the first of these bytes and behind it.
+/// The parts of a text before the first of these bytes and behind it. None comes where the text has no such byte.
 pub fn cut_at(text: &[u8], byte: u8) -> Option<(&[u8], &[u8])>
     ensures some { IfSome result (λ p. text.now ≡ p.0.now ++ byte ∷ p.1.now) }
     ensures first { IfSome result (λ p. ¬ Contains p.0.now byte) }

@@ -38,7 +38,8 @@ fn raw_of(text: &[u8]) -> Option<u64>
     Some(word.pack())
 }
 
-/// The word and the raw word of a line.
+/// The word and the raw word of a line `word W V:X`, or `word W V:Xt` where the word is tagged: W has one
+/// to ten digits, V is at most 2147483647 and X at most 4294967295. None comes for every other line.
 pub fn word_line_of(line: &[u8]) -> Option<(u64, u64)>
     ensures some { IfSome result (λ p. IsWordLine line.now p.0 p.1) }
     ensures none { IfNone result ((word raw : ℕ) → ¬ IsWordLine line.now word raw) }
