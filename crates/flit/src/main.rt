@@ -2,7 +2,7 @@
 //! standard error why a command did not end well.
 #![tactic(auto)]
 
-use flit_cli::{Status, StdSink, StdSource, Words, flit_recover, flit_step};
+use flit_cli::{Status, StdSink, StdSource, Words, flit_make, flit_recover, flit_step};
 use std::process::ExitCode;
 use std::rt::Env;
 use std::{env, io};
@@ -28,10 +28,14 @@ fn run(rt: &(impl Env + Input + Print + AllocGlobal)) -> Status {
     };
     let mut source = StdSource::new(rt.reader());
     let mut sink = StdSink::new(io::writer(rt));
-    match flit_recover(rt.alloc(), &words, &mut source, &mut sink) {
-        Status::Usage => flit_step(rt.alloc(), &words, &mut source, &mut sink),
-        status => status,
+    let mut status = flit_step(rt.alloc(), &words, &mut source, &mut sink);
+    if status == Status::Usage {
+        status = flit_recover(rt.alloc(), &words, &mut source, &mut sink);
     }
+    if status == Status::Usage {
+        status = flit_make(rt.alloc(), &words, &mut source, &mut sink);
+    }
+    status
 }
 
 fn main(rt: HostRuntime) -> ExitCode {

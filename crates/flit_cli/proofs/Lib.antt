@@ -1,4 +1,3 @@
-pub mod Taking
 pub mod PlayLaws
-pub mod InputLaws
 pub mod StepLaws
+pub mod PlainLaws

@@ -1,9 +1,7 @@
-pub mod MemSink
-pub mod MemSource
-pub mod Outside
-pub mod Standard
 pub mod Plays
 pub mod Statuses
 pub mod Writing
 pub mod Stepping
 pub mod Recovering
+pub mod Making
+pub mod SeenPlain

@@ -1,6 +1,6 @@
 -- What the command `recover` does with the bytes of its source: a lawful image is recovered from its text, and its keys,
 -- its values and its free rows are written.
-use Rattle.std.specs.Prelude.{◌≡◌, ◌≢◌, ℕ, List, [], ◌∷◌, codes}
+use Rattle.std.specs.Prelude.{◌≡◌, ◌≢◌, ℕ, List}
 use Rattle.flit_words.specs.declared.layouts.Layout.{Layout}
 use Rattle.flit_words.specs.Layouts.{Accepted}
 use Rattle.flit_trace.specs.declared.faults.Bound.TheVariants.{Bytes}
@@ -14,10 +14,6 @@ use Rattle.flit_cli.specs.declared.status.ImageFault.{ImageFault}
 use Rattle.flit_cli.specs.declared.status.ImageFault.TheVariants.{Text, Damage}
 use Rattle.flit_cli.specs.declared.status.Status.{Status}
 use Rattle.flit_cli.specs.declared.status.Status.TheVariants.{Done, Usage, BadTrace, Limit, BadImage, ReadFault, WriteFault, NoMemory}
-
--- the one list of words that it takes
-abbrev pub recover_words : List (List ℕ)
-recover_words = codes "recover" ∷ []
 
 -- the bytes are the text of a lawful image, and this text tells what it recovers to
 pub record IsRecoveryOf (bytes text : List ℕ) : Type 0 where

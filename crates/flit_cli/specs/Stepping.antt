@@ -1,32 +1,46 @@
 -- What the command `step` does with the bytes of its source: a plain trace is played, and its report is written.
-use Rattle.std.specs.Prelude.{◌≡◌, ℕ, List, [], ◌∷◌, codes}
-use Rattle.flit_trace.specs.Plain.{IsPlain}
+use Rattle.std.specs.Prelude.{◌≡◌, ◌⊎◌, ℕ, List}
+use Rattle.flit_trace.specs.declared.faults.Bound.{Bound}
+use Rattle.flit_trace.specs.declared.faults.TraceError.TheVariants as fault
+use Rattle.flit_trace.specs.Contents.{Content}
+use Rattle.flit_trace.specs.Grammar.{IsTrace, IsTraceFault}
+use Rattle.flit_trace.specs.PlainContents.{IsPlainContent}
 use Rattle.flit_cli.specs.Plays.{output_of}
 use Rattle.flit_cli.specs.declared.status.Status.{Status}
 use Rattle.flit_cli.specs.declared.status.Status.TheVariants.{Done, Usage, BadTrace, Limit, BadImage, ReadFault, WriteFault, NoMemory}
 
--- the one list of words that it takes
-abbrev pub step_words : List (List ℕ)
-step_words = codes "step" ∷ []
-
--- the bytes are no plain trace
-abbrev pub IsNoTrace : List ℕ → Type 0
-IsNoTrace bytes = (rows : ℕ) (keys : List ℕ) → IsPlain bytes rows keys → ⊥
-
 -- the bytes are a plain trace, and this text is its report
 pub record IsReportOf (bytes text : List ℕ) : Type 0 where
+  pub content : Content
+  pub trace : IsTrace bytes content
   pub rows : ℕ
   pub keys : List ℕ
-  pub plain : IsPlain bytes rows keys
+  pub plain : IsPlainContent content rows keys
   pub text_is : text ≡ output_of rows keys
 
--- why there is no report: a read failed, the bytes are no plain trace, or there was no memory
-abbrev pub IsStepFault : Type 0 → Type 0 → Status → Type 0
-IsStepFault read_failed no_trace ReadFault = read_failed
-IsStepFault read_failed no_trace (BadTrace line) = (line ≡ 0) × no_trace
-IsStepFault read_failed no_trace NoMemory = Unit {0}
-IsStepFault read_failed no_trace Done = ⊥
-IsStepFault read_failed no_trace Usage = ⊥
-IsStepFault read_failed no_trace (Limit line limit) = ⊥
-IsStepFault read_failed no_trace (BadImage fault) = ⊥
-IsStepFault read_failed no_trace WriteFault = ⊥
+-- the bytes are a trace, but no plain one
+pub record IsUnplain (bytes : List ℕ) : Type 0 where
+  pub content : Content
+  pub trace : IsTrace bytes content
+  pub not_plain : (rows : ℕ) (keys : List ℕ) → ¬ IsPlainContent content rows keys
+
+-- the bytes are no trace, and the line of their first fault is this one, from 1 on; or line 0 stands for a trace that isn't
+-- plain
+abbrev pub IsBadTrace : List ℕ → ℕ → Type 0
+IsBadTrace bytes line =
+    IsTraceFault bytes (fault.BadLine line) ⊎ (IsTraceFault bytes (fault.NoEnd line) ⊎ ((line ≡ 0) × IsUnplain bytes))
+
+-- the first fault of the bytes is a number past its limit
+abbrev pub IsOverLimit : List ℕ → ℕ → Bound → Type 0
+IsOverLimit bytes line limit = IsTraceFault bytes (fault.Limit line limit)
+
+-- why there is no report: a read failed, the trace is bad, a number is past its limit, or there was no memory
+abbrev pub IsNoReport : Type 0 → (ℕ → Type 0) → (ℕ → Bound → Type 0) → Status → Type 0
+IsNoReport read_failed bad over ReadFault = read_failed
+IsNoReport read_failed bad over (BadTrace line) = bad line
+IsNoReport read_failed bad over (Limit line limit) = over line limit
+IsNoReport read_failed bad over NoMemory = Unit {0}
+IsNoReport read_failed bad over Done = ⊥
+IsNoReport read_failed bad over Usage = ⊥
+IsNoReport read_failed bad over (BadImage fault) = ⊥
+IsNoReport read_failed bad over WriteFault = ⊥

@@ -2,17 +2,16 @@ ghost use Rattle.std.specs.Prelude.{◌≡◌, ◌≢◌, ℕ, ◌<◌, ◌≤�
 ghost use Rattle.flit_trace.specs.declared.faults.Bound.{Bound};
 ghost use Rattle.flit_trace.specs.declared.faults.Bound.TheVariants.{Bytes};
 ghost use Rattle.flit_cli.specs.declared.status.ImageFault.{ImageFault};
-ghost use Rattle.flit_cli.specs.Outside.{Rose};
+ghost use Rattle.flit_outside.specs.Outside.{Rose};
+ghost use Rattle.flit_outside.specs.declared.commands.Command.TheVariants.{Recover};
+ghost use Rattle.flit_outside.specs.CommandWords.{said_by};
 ghost use Rattle.flit_cli.specs.Statuses.{WritesNothing};
 ghost use Rattle.flit_cli.specs.Writing.{Wrote, WroteFront};
-ghost use Rattle.flit_cli.specs.Recovering.{recover_words, IsRecoveryOf, IsBadImage, IsNoRecovery};
+ghost use Rattle.flit_cli.specs.Recovering.{IsRecoveryOf, IsBadImage, IsNoRecovery};
 
-use crate::input::{InputError, read_input};
-use crate::outside::{Sink, Source};
 use crate::status::{ImageFault, Status};
-use crate::whole::write_all;
-use crate::word_list::Words;
 use flit_image::{ImageError, view_image};
+use flit_outside::{InputError, Sink, Source, Words, read_input, write_all};
 use flit_recover::{Damage, recover_view};
 use flit_report::recovery_text;
 use flit_trace::Bound;
@@ -74,7 +73,7 @@ pub fn flit_recover<S: Source, K: Sink>(
     source: &mut S,
     sink: &mut K,
 ) -> Status
-    ensures usage { (result ≡ Status.Usage) ↔ (words.now ≢ recover_words) }
+    ensures usage { (result ≡ Status.Usage) ↔ (words.now ≢ said_by Recover) }
     ensures unread { result ≡ Status.Usage → source.new ≡ source.old }
     ensures done { result ≡ Status.Done → IfSome (S.left source.old) (λ input. Wrote (IsRecoveryOf input) (S.left source.new) (K.taken sink.old) (K.taken sink.new)) }
 

@@ -1,3 +1,14 @@
-pub mod Plain
-pub mod Heads
-pub mod Reading
+pub mod Sentences
+pub mod Drafts
+pub mod Ahead
+pub mod Contents
+pub mod Counts
+pub mod Grammar
+pub mod Entries
+pub mod Index
+pub mod Starts
+pub mod Rights
+pub mod SeenTraces
+pub mod Readings
+pub mod Views
+pub mod PlainContents

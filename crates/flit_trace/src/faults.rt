@@ -14,17 +14,18 @@ pub enum Bound {
     Buckets,
     Slots,
     Versions,
+    /// Event lines, of a printed run alone: no trace has this fault.
     Events,
 }
 
 /// Why a trace was not read. Lines are counted from 1.
 #[derive(Clone, Copy, Debug, PartialEq, Eq)]
 pub enum TraceError {
-    /// The line doesn't say what may stand there.
+    /// The first line that can't stand where it stands.
     BadLine { line: u32 },
-    /// With this line the trace is over a limit.
+    /// The first line that could stand there but for a number past this limit; 0 for the limit on bytes.
     Limit { line: u32, limit: Bound },
-    /// The text ends at this line, and no `end` came.
+    /// All lines are right and `end` is missing; the line is their number plus one.
     NoEnd { line: u32 },
     /// There was no memory for what is read.
     NoMemory,

@@ -1,104 +1,166 @@
-ghost use Rattle.std.specs.Prelude.{◌≡◌, ℕ, ◌≤◌, List, length, IfOk, IfErr};
-ghost use Rattle.flit_words.specs.Layouts.{Accepted};
-ghost use Rattle.flit_trace.specs.Plain.{IsPlain, AreKeys};
-ghost use Rattle.flit_trace.specs.Heads.{list_head};
-ghost use Rattle.flit_trace.specs.Reading.{IsFault};
+ghost use Rattle.std.specs.Prelude.{◌≡◌, true, [], length, IfSome, if◌then◌else◌};
+ghost use Rattle.flit_words.specs.Layouts.{Accepted, words_of};
+ghost use Rattle.flit_trace.specs.Starts.{IsStartOf, words_in};
+ghost use Rattle.flit_trace.specs.Ahead.{Names};
 
-use crate::faults::TraceError;
-use crate::heads::{Head, Place};
-use crate::lines::{behind_words, keys_in, rows_in};
-use flit_words::{Kind, Layout};
-use std::alloc::Global;
+use crate::drafts::Draft;
+use crate::entries::Entry;
+use crate::heads::Head;
+use crate::index::Index;
+use crate::scripts::{Script, Turns};
+use flit_image::Image;
+use flit_model::Ahead;
 use std::marker::{Model, PhantomData};
 
-const MOST_BYTES: usize = 268435456;
-
-/// A trace that was read.
+/// A trace that was read. It keeps what each call, evict and turn line says in at most 16 bytes, and scripts and
+/// turns are lent from there. No text is copied.
 #[derive(Debug, Drop)]
 pub struct Trace<'a> {
-    rows: u32,
-    keys: Vec<u32>,
+    head: Head,
+    calls: u32,
+    /// Each worker's call and evict lines, worker 1 first.
+    scripts: Vec<Vec<Entry>>,
+    stops: [Option<u64>; 64],
+    turns: Vec<(u32, u64)>,
+    ahead: Ahead,
+    start: Option<Image>,
     /// The text that was read stays lent.
     text: PhantomData<&'a [u8]>,
 }
 
 impl<'a> Model for Trace<'a> {
-    ghost use Rattle.flit_trace.specs.Plain.{PlainTrace, IsWithinLimits};
+    ghost use Rattle.flit_trace.specs.SeenTraces.{SeenTrace};
 
-    ghost Value = { PlainTrace };
+    ghost Value = { SeenTrace };
 
-    ghost view = { λ t. record { rows = t.rows; keys = t.keys.items } };
+    ghost use Rattle.flit_trace.specs.Views.{seen_of, IsTraceInside};
 
-    ghost invariant = { λ t. IsWithinLimits (record { rows = t.rows; keys = t.keys.items }) };
+    ghost view = { seen_of };
+
+    ghost invariant = { IsTraceInside };
 }
 
-/// Reads a trace. `BadLine` comes where the bytes are no plain trace, and for now it names line 0.
-/// `NoMemory` comes where there is none for the keys.
-pub fn read_trace<'a>(alloc: Global, bytes: &'a [u8]) -> Result<Trace<'a>, TraceError>
-    ensures ok { IfOk result (λ t. IsPlain bytes.now t.rows t.keys) }
-    // No error but want of memory comes where there is a reading.
-    ensures err { IfErr result (IsFault ((rows : ℕ) (keys : List ℕ) →
-        ¬ IsPlain bytes.now rows keys)) }
+/// The words that ahead lines name.
+fn ahead_of(all: bool, words: Vec<u32>) -> Ahead
+    ensures { Names result all (if all then [] else words.items) }
 {
-    if bytes.len() > MOST_BYTES {
-        return Err(TraceError::BadLine { line: 0 });
+    if all {
+        Ahead::All
+    } else if words.is_empty() {
+        Ahead::None
+    } else {
+        Ahead::Words(words)
     }
-    let rest = behind_words(bytes, b"flit 1")?;
-    let rest = behind_words(rest, b"structure list")?;
-    let (rows, rest) = rows_in(rest)?;
-    let rest = behind_words(rest, b"workers 1")?;
-    let keys = keys_in(alloc, rest)?;
-    Ok(Trace {
-        rows,
-        keys,
-        text: PhantomData,
+}
+
+/// The start image of these words, where a start block stands.
+fn start_of(draft: &Draft, words: Vec<u64>) -> Option<Image>
+    requires accepted { Accepted draft.now.layout }
+    requires valued { draft.now.has_start ≡ true → draft.now.layout.values ≡ true }
+    requires whole { draft.now.has_start ≡ true → length words.items ≡ words_of draft.now.layout }
+    ensures words { words_in result ≡ (if draft.now.has_start then Some words.items else None) }
+    ensures is { IfSome result (IsStartOf draft.now.layout) }
+{
+    if !draft.has_start {
+        return None;
+    }
+    Some(Image {
+        kind: draft.layout.kind,
+        buckets: draft.layout.buckets,
+        rows: draft.layout.rows,
+        values: true,
+        words,
     })
 }
 
-impl Trace<'_> {
-    /// What the trace says before its calls.
-    pub fn head(&self) -> Head
-        ensures is { result ≡ list_head self.now.rows }
-        ensures accepted { Accepted result.layout }
+impl<'a> Trace<'a> {
+    ghost use Rattle.flit_trace.specs.Contents.{Told, content_of};
+    ghost use Rattle.flit_trace.specs.Counts.{IsCounted};
+    ghost use Rattle.flit_trace.specs.Index.{IsIndexOf};
+    ghost use Rattle.flit_trace.specs.Readings.{IsReady};
+    ghost use Rattle.flit_trace.specs.SeenTraces.{Shows};
+
+    /// The trace of a draft and an index of all lines.
+    pub(crate) fn of(draft: &Draft, index: Index) -> Trace<'a>
+        requires { IsReady draft.now index }
+        ensures { (t : Told) → IsIndexOf index t → IsCounted draft.now t.items → Shows result (content_of draft.now t) }
     {
-        let bare = Layout {
-            kind: Kind::List,
-            buckets: 1,
-            rows: self.rows,
-            slots: 0,
-            workers: 1,
-            limit: 2147483647,
-            values: false,
-        };
-        Head {
-            layout: Layout {
-                slots: bare.words(),
-                ..bare
-            },
-            place: Place::Adjacent,
+        let Index {
+            scripts,
+            turns,
+            all_ahead,
+            ahead,
+            words,
+        } = index;
+        Trace {
+            head: draft.head(),
+            calls: draft.calls,
+            scripts,
+            stops: draft.stops,
+            turns,
+            ahead: ahead_of(all_ahead, ahead),
+            start: start_of(draft, words),
+            text: PhantomData,
         }
-    }
-
-    /// How many calls the trace has.
-    pub fn calls(&self) -> u32
-        ensures is { result ≡ length self.now.keys }
-        ensures few { result ≤ 1048576 }
-    {
-        self.keys.len() as u32
-    }
-
-    /// The keys of the inserts, in the order of their lines.
-    pub fn keys(&self) -> &[u32]
-        ensures is { result.now ≡ self.now.keys }
-        ensures small { AreKeys result.now }
-    {
-        self.keys.as_slice()
     }
 }
 
-/// No bytes can be read as two plain traces.
-pub fn one_reading()
-    ensures { (bytes : List ℕ) (rows other_rows : ℕ) (keys other_keys : List ℕ) →
-        IsPlain bytes rows keys → IsPlain bytes other_rows other_keys →
-        (rows ≡ other_rows) × (keys ≡ other_keys) }
-{}
+impl Trace<'_> {
+    ghost use Rattle.std.specs.Prelude.{◌≤◌, MatchOption};
+    ghost use Rattle.flit_trace.specs.Drafts.{stop_of};
+    ghost use Rattle.flit_trace.specs.SeenTraces.{script_at, IsWorker};
+
+    /// What the trace says before its body. The layout has as many slots as the place.
+    pub fn head(&self) -> Head
+        ensures is { result ≡ self.now.head }
+        ensures accepted { Accepted result.layout }
+    {
+        self.head
+    }
+
+    /// How many calls the trace has. Write-backs aren't counted.
+    pub fn calls(&self) -> u32
+        ensures is { result ≡ self.now.calls }
+        ensures few { result ≤ 1048576 }
+    {
+        self.calls
+    }
+
+    /// The lines of a worker, from 1.
+    pub fn script(&self, worker: u32) -> Script<'_>
+        requires { IsWorker self.now worker }
+        ensures { result ≡ script_at self.now worker }
+    {
+        Script::of(self.scripts[worker as usize - 1].as_slice())
+    }
+
+    /// After how many events a worker, from 1, stops. None comes where it has no stop line.
+    pub fn stop(&self, worker: u32) -> Option<u64>
+        requires { IsWorker self.now worker }
+        ensures { result ≡ stop_of self.now.stops worker }
+    {
+        self.stops[worker as usize - 1]
+    }
+
+    /// The turn lines.
+    pub fn turns(&self) -> Turns<'_>
+        ensures { result ≡ self.now.turns }
+    {
+        Turns::of(self.turns.as_slice())
+    }
+
+    /// The words that the ahead lines name.
+    pub fn ahead(&self) -> &Ahead
+        ensures { Names result.now self.now.all_ahead self.now.ahead }
+    {
+        &self.ahead
+    }
+
+    /// The start image, which has values. None comes where there is no start block.
+    pub fn start(&self) -> Option<&Image>
+        ensures words { MatchOption result (self.now.start ≡ None) (λ image. self.now.start ≡ Some image.now.words.items) }
+        ensures is { IfSome result (λ image. IsStartOf self.now.head.layout image.now) }
+    {
+        self.start.as_ref()
+    }
+}

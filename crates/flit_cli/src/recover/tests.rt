@@ -1,8 +1,7 @@
 ghost use Rattle.std.specs.Prelude.{◌≤◌};
 
 use super::*;
-use crate::mem_sink::MemSink;
-use crate::mem_source::MemSource;
+use flit_outside::{MemSink, MemSource};
 use std::test::Fail;
 
 const REMOVED: &[u8] =

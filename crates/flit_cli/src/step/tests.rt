@@ -1,16 +1,21 @@
 ghost use Rattle.std.specs.Prelude.{◌≤◌};
 
 use super::*;
-use crate::mem_sink::MemSink;
-use crate::mem_source::MemSource;
 use crate::status::ImageFault;
 use flit_image::ImageError;
+use flit_outside::{MemSink, MemSource};
 use flit_recover::Damage;
 use std::test::Fail;
 
 const ONE_INSERT: &[u8] = b"flit 1\nstructure list\nrows 4\nworkers 1\n1 insert 5\nend\n";
 
 const ONE_INSERT_REPORT: &[u8] = b"call 1 insert 5 yes\nkeys 5\nfree 3\n";
+
+const CUT: &[u8] = b"flit 1\nstructure list\nrows 4\nworkers 1\n1 insert 5\n";
+
+const LARGEST_KEY: &[u8] = b"flit 1\nstructure list\nrows 4\nworkers 1\n1 insert 4294967292\nend\n";
+
+const LARGEST_KEY_REPORT: &[u8] = b"call 1 insert 4294967292 yes\nkeys 4294967292\nfree 3\n";
 
 const NO_ROW_LEFT: &[u8] =
     b"flit 1\nstructure list\nrows 1\nworkers 1\n1 insert 1\n1 insert 2\nend\n";
@@ -50,6 +55,7 @@ fn run(
 fn traces_are_played(rt: HostRuntime) -> Result<(), Fail> {
     let runs = [
         (ONE_INSERT, ONE_INSERT_REPORT),
+        (LARGEST_KEY, LARGEST_KEY_REPORT),
         (NO_ROW_LEFT, NO_ROW_LEFT_REPORT),
         (TWICE, TWICE_REPORT),
     ];
@@ -94,7 +100,15 @@ fn a_sink_of_no_pieces_takes_nothing(rt: HostRuntime) -> Result<(), Fail> {
 
 #[test]
 fn other_words_come_first(rt: HostRuntime) -> Result<(), Fail> {
-    let lists: [&[&str]; 4] = [&[], &["step", "--fast"], &["steps"], &["step", "step"]];
+    let lists: [&[&str]; 7] = [
+        &[],
+        &["step", "--fast"],
+        &["steps"],
+        &["step", "step"],
+        &["step", "--events"],
+        &["run"],
+        &["queue"],
+    ];
     for words in lists {
         let (status, taken) = run(rt.alloc(), words, ONE_INSERT, 8, 1, 0)?;
         assert_eq!(rt; status, Status::Usage);
@@ -104,13 +118,51 @@ fn other_words_come_first(rt: HostRuntime) -> Result<(), Fail> {
 }
 
 #[test]
-fn other_bytes_are_no_trace(rt: HostRuntime) -> Result<(), Fail> {
-    let texts: [&[u8]; 5] = [
-        b"",
-        b"flit 1\nstructure list\nrows 4\nworkers 1\n1 insert 5\n",
-        b"flit 1\nstructure list\nrows 0\nworkers 1\nend\n",
-        b"flit 1\nstructure list\nrows 4\nworkers 1\n1 insert 05\nend\n",
+fn the_first_fault_is_told_with_its_line(rt: HostRuntime) -> Result<(), Fail> {
+    let texts: [(&[u8], u32); 5] = [
+        (b"", 1),
+        (CUT, 6),
+        (b"flit 1\nstructure list\nrows 0\nworkers 1\nend\n", 3),
+        (
+            b"flit 1\nstructure list\nrows 4\nworkers 1\n1 insert 05\nend\n",
+            5,
+        ),
+        (
+            b"flit 1\nstructure list\nrows 4\nworkers 1\n1 insert 4294967293\nend\n",
+            5,
+        ),
+    ];
+    for (text, line) in texts {
+        let (status, taken) = run(rt.alloc(), &["step"], text, 8, 0, 0)?;
+        assert_eq!(rt; status, Status::BadTrace { line });
+        assert_eq!(rt; taken.len(), 0);
+    }
+    Ok(())
+}
+
+#[test]
+fn a_number_past_its_limit_is_told(rt: HostRuntime) -> Result<(), Fail> {
+    let text = b"flit 1\nstructure list\nrows 1048576\nworkers 1\nend\n";
+    let (status, taken) = run(rt.alloc(), &["step"], text, 8, 0, 0)?;
+    let limit = Bound::Rows;
+    assert_eq!(rt; status, Status::Limit { line: 3, limit });
+    assert_eq!(rt; taken.len(), 0);
+    Ok(())
+}
+
+// Traces that are right, but not plain.
+#[test]
+fn other_traces_wait(rt: HostRuntime) -> Result<(), Fail> {
+    let texts: [&[u8]; 9] = [
         b"flit 1\nstructure list\nrows 4\nworkers 1\n1 remove 5\nend\n",
+        b"flit 1\nstructure tree\nrows 4\nworkers 1\n1 insert 5\nend\n",
+        b"flit 1\nstructure list\nplace packed\nrows 4\nworkers 1\n1 insert 5\nend\n",
+        b"flit 1\nstructure list\nrows 4\nworkers 2\n1 insert 5\nend\n",
+        b"flit 1\nstructure list\nrows 4\nworkers 1\nversions 9\n1 insert 5\nend\n",
+        b"flit 1\nstructure list\nrows 4\nworkers 1\n1 insert 5\nturn 1 2\nend\n",
+        b"flit 1\nstructure list\nrows 4\nworkers 1\n1 insert 5\nstop 1 2\nend\n",
+        b"flit 1\nstructure list\nrows 4\nworkers 1\n1 insert 5\nahead all\nend\n",
+        b"flit 2\nstructure list\nrows 4\nworkers 1\n1 insert 5 6\nend\n",
     ];
     for text in texts {
         let (status, taken) = run(rt.alloc(), &["step"], text, 8, 0, 0)?;
@@ -124,7 +176,7 @@ fn other_bytes_are_no_trace(rt: HostRuntime) -> Result<(), Fail> {
 fn statuses_have_their_codes_and_lines(rt: HostRuntime) -> Result<(), Fail> {
     let limit = Status::Limit {
         line: 3,
-        limit: flit_trace::Bound::Rows,
+        limit: Bound::Rows,
     };
     let bad_text = Status::BadImage(ImageFault::Text(ImageError::BadLine { line: 7 }));
     let bad_header = Status::BadImage(ImageFault::Text(ImageError::BadHeader));

@@ -1,0 +1,52 @@
+ghost use Rattle.std.specs.Prelude.{◌≡◌, ◌≢◌, ◌↔◌};
+ghost use Rattle.flit_outside.specs.declared.commands.Making.{Making};
+ghost use Rattle.flit_outside.specs.Outside.{Rose};
+ghost use Rattle.flit_outside.specs.CommandWords.{make_words, IsInRange};
+ghost use Rattle.flit_cli.specs.Statuses.{WritesNothing};
+ghost use Rattle.flit_cli.specs.Making.{WroteMade, WroteMadeFront, EndsMake};
+
+use crate::status::Status;
+use flit_generator::generator_text;
+use flit_outside::{Sink, Source, Words, making_of, write_all};
+use std::alloc::Global;
+
+#[cfg(test)]
+mod tests;
+
+/// The command `make SEED CALLS KEYS WORKERS`: writes the trace that the generator makes of these numbers. The source is
+/// not read.
+///
+/// SEED is at most 2147483647, CALLS are 1 to 500000, KEYS 1 to 32768 and WORKERS 1 to 64. Usage comes first, with no
+/// memory taken, for all other words; then WriteFault, where a write failed. NoMemory may come in the place of each status
+/// but Usage.
+pub fn flit_make<S: Source, K: Sink>(
+    alloc: Global,
+    words: &Words,
+    source: &mut S,
+    sink: &mut K,
+) -> Status
+    ensures usage { (result ≡ Status.Usage) ↔ ((making : Making) → IsInRange making → words.now ≢ make_words making) }
+    ensures unread { source.new ≡ source.old }
+    ensures done { result ≡ Status.Done → WroteMade words.now (K.taken sink.old) (K.taken sink.new) }
+    ensures write_fault { result ≡ Status.WriteFault → Rose (K.faults sink.old) (K.faults sink.new) }
+    ensures cut { result ≡ Status.WriteFault → WroteMadeFront words.now (K.taken sink.old) (K.taken sink.new) }
+    ensures unwritten { WritesNothing result → sink.new ≡ sink.old }
+    ensures only { EndsMake result }
+{
+    let Some(making) = making_of(words) else {
+        return Status::Usage;
+    };
+    let Ok(text) = generator_text(
+        alloc,
+        making.seed,
+        making.calls,
+        making.keys,
+        making.workers,
+    ) else {
+        return Status::NoMemory;
+    };
+    match write_all(sink, &text) {
+        Ok(()) => Status::Done,
+        Err(_failed) => Status::WriteFault,
+    }
+}

@@ -1,0 +1,3 @@
+pub mod Generator
+pub mod Writing
+pub mod MadeTraces

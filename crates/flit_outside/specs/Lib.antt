@@ -1,0 +1,5 @@
+pub mod CommandWords
+pub mod MemSink
+pub mod MemSource
+pub mod Outside
+pub mod Standard

@@ -1,0 +1,85 @@
+ghost use Rattle.std.specs.Prelude.{◌≡◌};
+ghost use Rattle.flit_trace.specs.Drafts.{takes_version, takes_structure, takes_place, takes_rows, takes_workers, takes_versions, takes_start, is_in_block, takes_body, is_ended};
+
+/// Which line may come next.
+#[derive(Clone, Copy, Debug, PartialEq, Eq)]
+pub(crate) enum Stage {
+    AtVersion,
+    AtStructure,
+    /// `place`, or what comes where it is left out.
+    AtPlace,
+    AtRows,
+    AtWorkers,
+    /// `versions`, or what comes where it is left out.
+    AtVersions,
+    /// A start block, or what comes where it is left out.
+    AtStart,
+    /// A word line of the start block, or `begin`.
+    InBlock,
+    /// A body line or `end`.
+    InBody,
+    /// Nothing.
+    Ended,
+}
+
+impl Stage {
+    pub fn takes_version(self) -> bool
+        ensures { result ≡ takes_version self }
+    {
+        matches!(self, Stage::AtVersion)
+    }
+
+    pub fn takes_structure(self) -> bool
+        ensures { result ≡ takes_structure self }
+    {
+        matches!(self, Stage::AtStructure)
+    }
+
+    pub fn takes_place(self) -> bool
+        ensures { result ≡ takes_place self }
+    {
+        matches!(self, Stage::AtPlace)
+    }
+
+    pub fn takes_rows(self) -> bool
+        ensures { result ≡ takes_rows self }
+    {
+        matches!(self, Stage::AtPlace | Stage::AtRows)
+    }
+
+    pub fn takes_workers(self) -> bool
+        ensures { result ≡ takes_workers self }
+    {
+        matches!(self, Stage::AtWorkers)
+    }
+
+    pub fn takes_versions(self) -> bool
+        ensures { result ≡ takes_versions self }
+    {
+        matches!(self, Stage::AtVersions)
+    }
+
+    pub fn takes_start(self) -> bool
+        ensures { result ≡ takes_start self }
+    {
+        matches!(self, Stage::AtVersions | Stage::AtStart)
+    }
+
+    pub fn is_in_block(self) -> bool
+        ensures { result ≡ is_in_block self }
+    {
+        matches!(self, Stage::InBlock)
+    }
+
+    pub fn takes_body(self) -> bool
+        ensures { result ≡ takes_body self }
+    {
+        matches!(self, Stage::AtVersions | Stage::AtStart | Stage::InBody)
+    }
+
+    pub fn is_ended(self) -> bool
+        ensures { result ≡ is_ended self }
+    {
+        matches!(self, Stage::Ended)
+    }
+}
