@@ -1,0 +1,63 @@
+ghost use Rattle.std.specs.Prelude.{◌≡◌, length};
+ghost use Rattle.flit_words.specs.Layouts.{Accepted};
+
+use flit_model::{Event, Machine, one_place};
+use flit_words::{Layout, Word};
+use std::alloc::Global;
+use std::process::Abort;
+use std::test::Fail;
+
+/// A machine on which events are made, and the events that were made.
+#[derive(Drop)]
+pub struct Rig {
+    machine: Machine,
+    words: u32,
+    slots: u32,
+    pub events: Vec<Event>,
+    ghost words_are: { length machine.words ≡ words },
+    ghost slots_are: { length machine.slots ≡ slots },
+}
+
+impl Rig {
+    pub fn new(rt: &impl Abort, alloc: Global, layout: &Layout, words: &[u64]) -> Result<Rig, Fail>
+        requires { Accepted layout.now }
+    {
+        assert_eq!(rt; words.len(), layout.words() as usize);
+        Ok(Rig {
+            machine: Machine::of(alloc, layout, words)?,
+            words: layout.words(),
+            slots: layout.slots,
+            events: Vec::new(alloc),
+        })
+    }
+
+    fn apply(&mut self, rt: &impl Abort, event: Event) -> u64 {
+        match event {
+            Event::Load { word } => assert!(rt; word < self.words),
+            Event::Exchange { word, .. } => assert!(rt; word < self.words),
+            Event::Store { word, .. } => assert!(rt; word < self.words),
+            Event::Persist { word, kept } => {
+                assert!(rt; word < self.words);
+                assert!(rt; !Word::unpack(kept).tagged);
+            }
+            Event::ReadTag { slot } => assert!(rt; slot < self.slots),
+            Event::Raise { slot } => {
+                assert!(rt; slot < self.slots);
+                assert!(rt; self.machine.apply(Event::ReadTag { slot }) < u64::MAX);
+            }
+            Event::Lower { slot } => {
+                assert!(rt; slot < self.slots);
+                assert!(rt; 1 <= self.machine.apply(Event::ReadTag { slot }));
+            }
+            Event::Draw => panic!(rt; "no machine draws"),
+        }
+        one_place();
+        self.machine.apply(event)
+    }
+
+    /// Makes an event, which must be one that this machine allows.
+    pub fn make(&mut self, rt: &impl Abort, event: Event) -> Result<u64, Fail> {
+        self.events.push(event)?;
+        Ok(self.apply(rt, event))
+    }
+}
