@@ -1,0 +1,4 @@
+pub mod Counting
+pub mod Knowledge
+pub mod OneKey
+pub mod Steps
