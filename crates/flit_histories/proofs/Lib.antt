@@ -1,0 +1,16 @@
+pub mod Numbers
+pub mod PartLists
+pub mod MadeLaws
+pub mod TurnedRuns
+pub mod SoundRuns
+pub mod FirstRuns
+pub mod ReachedRuns
+pub mod WonUpdates
+pub mod ToldCalls
+pub mod HistoryFilters
+pub mod OneEach
+pub mod ToldRuns
+pub mod CallLaws
+pub mod SinceRuns
+pub mod HistoryOrders
+pub mod OrderLaws

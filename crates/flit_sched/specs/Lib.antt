@@ -1,0 +1,10 @@
+pub mod Runs
+pub mod Turns
+pub mod Reads
+pub mod Openings
+pub mod Kept
+pub mod Views
+pub mod Histories
+pub mod Books
+pub mod Settled
+pub mod Starting
