@@ -1,0 +1,5 @@
+use Rattle.flit_table.proofs.Opening.{opens_kept}
+use Rattle.flit_table.proofs.rule_laws.rule_opens.Goals as goal
+
+pub returns : goal.returns
+returns g c = λ o opens. opens_kept g.S.Structure.meaning g.met.S.Structure.lawful o opens

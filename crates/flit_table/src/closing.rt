@@ -1,0 +1,152 @@
+ghost use Rattle.std.specs.Prelude.{◌≡◌, ℕ, ◌+◌, ◌*◌, ◌<◌, ◌==◌, true, false, None, Some, IfOk};
+ghost use Rattle.std.specs.List.{list_any};
+ghost use Rattle.std.specs.Mem.Slots.{IsFull, slots_len, slots_items};
+ghost use Rattle.flit_recover.specs.Copies.{IsImageOf};
+ghost use Rattle.flit_table.specs.Calls.{IsHeld};
+ghost use Rattle.flit_table.specs.Closing.{Closes, picks_of, taken_word, word_in, image_in, known_in};
+ghost use Rattle.flit_table.specs.Steps.{Home};
+
+use crate::passes::{Holder, Pass};
+use crate::running::Running;
+use crate::told::{Evidence, Told, tell};
+use atomic_table::Closed;
+use flit_image::Image;
+use flit_model::Ahead;
+use flit_structure::Structure;
+use flit_words::{NoMemory, Word, bare};
+use std::alloc::Global;
+use std::snapshot::Snapshot;
+
+impl<S: Structure> Running<S> {
+    /// The end of a running structure: the image that the words then give, and what is told of it and of what the pass
+    /// has seen and made. The error is NoMemory alone; the structure is given up then, too.
+    ///
+    /// It is taken out of the reference, since a caller that names its structure can't pass it by value.
+    pub fn close(
+        running: &mut Option<Running<S>>,
+        alloc: Global,
+        pass: Pass<S>,
+        ahead: &Ahead,
+    ) -> Result<(Image, Told), NoMemory>
+        requires { (home : Home S) × (running.old ≡ Some home) × IsHeld S.meaning home.origin.structure.value home pass.held }
+        ensures gone { running.new ≡ None }
+        ensures closes { IfOk result (λ r. (home : Home S) → running.old ≡ Some home → Closes S.meaning home.origin pass.held.seat.me.0 (picks_of ahead.now) r.0.words.items) }
+        ensures shape { IfOk result (λ r. (home : Home S) → running.old ≡ Some home → IsImageOf (S.meaning.layout home.origin.structure.value) r.0) }
+        ensures told { IfOk result (λ r. (home : Home S) → running.old ≡ Some home → r.1.seat.me.0 ≡ known_in (S.meaning.layout home.origin.structure.value) ahead.now r.0 pass.held.seat.me.0) }
+    {
+        let Some(inside) = running.take() else {
+            unreachable!()
+        };
+        let Running { structure, table } = inside;
+        let layout = *structure.layout();
+        let count = layout.words();
+        let Pass { held } = pass;
+        let was = Snapshot::of(&held);
+        let Holder {
+            seat,
+            name: _,
+            names: _,
+            calls: _,
+            hand: _,
+            tally: _,
+            unbegun: _,
+        } = held;
+        let closed = table.close_with(seat);
+        let words = image_of_table(alloc, &closed, count, ahead);
+        closed.free();
+        let image = Image {
+            kind: layout.kind,
+            buckets: layout.buckets,
+            rows: layout.rows,
+            values: layout.values,
+            words: words?,
+        };
+        let evidence = Evidence {
+            layout: Snapshot::of(&layout),
+            ahead: Snapshot::of(ahead),
+            image: Snapshot::of(&image),
+            held: was,
+        };
+        let told = tell(alloc, &evidence)?;
+        Ok((image, told))
+    }
+}
+
+// The shadow, or the word where that is ahead and is taken.
+fn kept_or_taken(takes: bool, word: u64, shadow: u64) -> u64
+    ensures { result ≡ taken_word takes word shadow }
+{
+    let is_ahead = Word::unpack(word).version == Word::unpack(shadow).version + 1;
+    if takes && is_ahead {
+        bare(word)
+    } else {
+        shadow
+    }
+}
+
+// The word that an image takes.
+fn image_word(closed: &Closed<u64, Global>, count: u32, word: u32, takes: bool) -> u64
+    requires full { IsFull closed.now.words }
+    requires long { 2 * count < slots_len closed.now.words }
+    requires within { word < count }
+    ensures { result ≡ word_in (slots_items closed.now.words) count takes word }
+{
+    let at = word as usize + 1;
+    let now = closed.word(at);
+    let shadow = closed.word(count as usize + at);
+    kept_or_taken(takes, now, shadow)
+}
+
+// The image that takes all values ahead, or none.
+fn all_or_none(
+    alloc: Global,
+    closed: &Closed<u64, Global>,
+    count: u32,
+    takes: bool,
+) -> Result<Vec<u64>, NoMemory>
+    requires full { IsFull closed.now.words }
+    requires long { 2 * count < slots_len closed.now.words }
+    ensures { IfOk result (λ v. v.items ≡ image_in (λ w. takes) count (slots_items closed.now.words)) }
+{
+    let mut image = Vec::with_capacity(alloc, count as usize)?;
+    for word in 0..count {
+        image.push(image_word(closed, count, word, takes))?;
+    }
+    Ok(image)
+}
+
+// Takes the values ahead of some words into an image that takes none.
+fn take_ahead(closed: &Closed<u64, Global>, count: u32, image: &mut Vec<u64>, chosen: &[u32])
+    requires full { IsFull closed.now.words }
+    requires long { 2 * count < slots_len closed.now.words }
+    requires none { image.old.items ≡ image_in (λ w. false) count (slots_items closed.now.words) }
+    ensures { image.new.items ≡ image_in (λ w. list_any (λ v. v == w) chosen.now) count (slots_items closed.now.words) }
+{
+    for word in chosen {
+        if *word < count {
+            image[*word as usize] = image_word(closed, count, *word, true);
+        }
+    }
+}
+
+// The image of a table at its end.
+fn image_of_table(
+    alloc: Global,
+    closed: &Closed<u64, Global>,
+    count: u32,
+    ahead: &Ahead,
+) -> Result<Vec<u64>, NoMemory>
+    requires full { IsFull closed.now.words }
+    requires long { 2 * count < slots_len closed.now.words }
+    ensures { IfOk result (λ v. v.items ≡ image_in (picks_of ahead.now) count (slots_items closed.now.words)) }
+{
+    match ahead {
+        Ahead::None => all_or_none(alloc, closed, count, false),
+        Ahead::All => all_or_none(alloc, closed, count, true),
+        Ahead::Words(chosen) => {
+            let mut image = all_or_none(alloc, closed, count, false)?;
+            take_ahead(closed, count, &mut image, chosen.as_slice());
+            Ok(image)
+        }
+    }
+}
