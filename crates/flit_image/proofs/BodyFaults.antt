@@ -25,13 +25,15 @@ end_alone text here rest lines end nothing =
     lines ∙ ap (λ line. line ∷ lines_of rest) end ∙ ap (λ behind. codes "end" ∷ lines_of behind) nothing
 
 -- something follows the end
-pub end_and_more : (l : Layout) (n low : ℕ) (text here rest : List ℕ) → lines_of text ≡ here ∷ lines_of rest → here ≡ codes "end" → rest ≢ [] → IsBodyFault l n low (lines_of text) (BadLine (n + 1))
+pub end_and_more : (l : Layout) (n low : ℕ) (text here rest : List ℕ) → lines_of text ≡ here ∷ lines_of rest → here ≡ codes "end" → rest ≢ [] →
+    IsBodyFault l n low (lines_of text) (BadLine (n + 1))
 end_and_more l n low text here rest lines end more =
     let P : List (List ℕ) → Type 0 = λ ls. IsBodyFault l n low ls (BadLine (n + 1)) in
     subst P (sym lines) (inl (end, lines_of-some rest more, ap BadLine (add-one n)))
 
 -- a fault behind a word's line
-pub fault_behind : (l : Layout) (n m low start up : ℕ) (text line rest : List ℕ) (word raw : ℕ) (fault : ImageError) → m ≡ suc n → low ≡ start → up ≡ suc word → BeginsWord l low text line word raw rest → IsBodyFault l m up (lines_of rest) fault → IsBodyFault l n start (lines_of text) fault
+pub fault_behind : (l : Layout) (n m low start up : ℕ) (text line rest : List ℕ) (word raw : ℕ) (fault : ImageError) → m ≡ suc n → low ≡ start → up ≡ suc word →
+    BeginsWord l low text line word raw rest → IsBodyFault l m up (lines_of rest) fault → IsBodyFault l n start (lines_of text) fault
 fault_behind l n m low start up text line rest word raw fault next same above begins later =
     let P : List (List ℕ) → Type 0 = λ ls. IsBodyFault l n low ls fault in
     let S : ℕ → Type 0 = λ k. IsBodyFault l n k (lines_of text) fault in

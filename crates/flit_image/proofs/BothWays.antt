@@ -77,7 +77,8 @@ word_line_is_line word raw few small =
     (IsLine-append (codes "word ") (decimal word) (line_by_test (codes "word ") refl) (IsLine-decimal word few))
     (line_by_test (codes " ") refl)) (word_text_is_line raw small)
 
-words_are_lines : (l : Layout) (n : ℕ) (raws : List ℕ) → n + length raws < 10 ^ 10 → AllByRecursion (λ x. x < 2 ^ 64) raws → AllByRecursion IsLine (lines_from l n raws ++ codes "end" ∷ [])
+words_are_lines : (l : Layout) (n : ℕ) (raws : List ℕ) → n + length raws < 10 ^ 10 → AllByRecursion (λ x. x < 2 ^ 64) raws →
+    AllByRecursion IsLine (lines_from l n raws ++ codes "end" ∷ [])
 words_are_lines l n [] few all = (line_by_test (codes "end") refl, tt)
 words_are_lines l n (x ∷ xs) few all =
     let rest : AllByRecursion IsLine (lines_from l (suc n) xs ++ codes "end" ∷ []) = words_are_lines l (suc n) xs (omega arith) all.1 in
@@ -100,7 +101,8 @@ structure_is_line Hash buckets most =
 rows_is_line : (rows : ℕ) → rows ≤ 1048575 → IsLine (codes "rows " ++ decimal rows)
 rows_is_line rows most = IsLine-append (codes "rows ") (decimal rows) (line_by_test (codes "rows ") refl) (IsLine-decimal rows (omega arith))
 
-image_has_lines : (l : Layout) (words : List ℕ) → Accepted l → length words ≡ words_of l → AllByRecursion (λ x. x < 2 ^ 64) words → AllByRecursion IsLine (image_lines l words)
+image_has_lines : (l : Layout) (words : List ℕ) → Accepted l → length words ≡ words_of l → AllByRecursion (λ x. x < 2 ^ 64) words →
+    AllByRecursion IsLine (image_lines l words)
 image_has_lines l words accepted whole raw =
     let few : 0 + length words < 10 ^ 10 = omega (arith, words_of-below l accepted, whole) in
     let P : List (List ℕ) → Type 0 = λ ls. AllByRecursion IsLine (ls ++ codes "end" ∷ []) in
@@ -115,7 +117,8 @@ lines_of-with_ends (x ∷ xs) all =
     ∙ ap (λ ls. x ∷ ls) (lines_of-with_ends xs all.1)
 
 -- what is written is read again
-pub image_text_again : (l : Layout) (words : List ℕ) → Accepted l → length words ≡ words_of l → AllByRecursion (λ raw. raw < 2 ^ 64) words → IsImageText (image_text l words) l words
+pub image_text_again : (l : Layout) (words : List ℕ) → Accepted l → length words ≡ words_of l → AllByRecursion (λ raw. raw < 2 ^ 64) words →
+    IsImageText (image_text l words) l words
 image_text_again l words accepted whole raw = record {
   whole = whole;
   raw = raw;

@@ -35,7 +35,8 @@ pub record IsUntold (l : Layout) (n low word raw : ℕ) (fault : ImageError) : T
   pub within : word < words_of l
   pub fresh : raw ≡ initial_of l.kind word
 
-pub word_fault_cases : (l : Layout) (n low word raw : ℕ) (fault : ImageError) → IsWordFault l n low word raw fault → IsEarly n low word fault ⊎ (IsPast l n low word fault ⊎ IsUntold l n low word raw fault)
+pub word_fault_cases : (l : Layout) (n low word raw : ℕ) (fault : ImageError) → IsWordFault l n low word raw fault →
+    IsEarly n low word fault ⊎ (IsPast l n low word fault ⊎ IsUntold l n low word raw fault)
 word_fault_cases l n low word raw (OutOfOrder line) is = inl (record { fault_is = ap OutOfOrder is.0; below = is.1 })
 word_fault_cases l n low word raw (WordOutOfRange line) is = inr (inl (record { fault_is = ap WordOutOfRange is.0; order = is.1; past = is.2 }))
 word_fault_cases l n low word raw (Default line) is = inr (inr (record { fault_is = ap Default is.0; order = is.1; within = is.2; fresh = is.3 }))
@@ -44,7 +45,8 @@ word_fault_cases l n low word raw (BadLine line) is = absurd is
 word_fault_cases l n low word raw NoMemory is = absurd is
 
 -- a good word has no fault
-pub good_or_fault : (l k : Layout) (n low v w r s : ℕ) (fault : ImageError) → l.kind ≡ k.kind → words_of l ≡ words_of k → v ≡ w → r ≡ s → IsGoodWord l low v r → IsWordFault k n low w s fault → ⊥
+pub good_or_fault : (l k : Layout) (n low v w r s : ℕ) (fault : ImageError) → l.kind ≡ k.kind → words_of l ≡ words_of k → v ≡ w → r ≡ s → IsGoodWord l low v r →
+    IsWordFault k n low w s fault → ⊥
 good_or_fault l k n low v w r s fault kind count place raw good is =
     let order : low ≤ v = good.order in
     let within : v < words_of l = good.within in
@@ -56,7 +58,8 @@ good_or_fault l k n low v w r s fault kind count place raw good is =
       ]
     ]
 
-word_fault_once : (l k : Layout) (n low v w r s : ℕ) (e f : ImageError) → l.kind ≡ k.kind → words_of l ≡ words_of k → v ≡ w → r ≡ s → IsWordFault l n low v r e → IsWordFault k n low w s f → e ≡ f
+word_fault_once : (l k : Layout) (n low v w r s : ℕ) (e f : ImageError) → l.kind ≡ k.kind → words_of l ≡ words_of k → v ≡ w → r ≡ s →
+    IsWordFault l n low v r e → IsWordFault k n low w s f → e ≡ f
 word_fault_once l k n low v w r s e f kind count place raw one other =
     elim (word_fault_cases l n low v r e one) [
       | inl a ↦ elim (word_fault_cases k n low w s f other) [
@@ -85,7 +88,9 @@ word_fault_once l k n low v w r s e f kind count place raw one other =
     ]
 
 -- the lines of words have no fault
-no_body_fault : (l k : Layout) (n low m : ℕ) (raws : List ℕ) (fault : ImageError) → l.kind ≡ k.kind → words_of l ≡ words_of k → low ≤ m → m + length raws ≡ words_of l → words_of l < 2 ^ 24 → AllByRecursion (λ x. x < 2 ^ 64) raws → IsBodyFault k n low (lines_from l m raws ++ codes "end" ∷ []) fault → ⊥
+no_body_fault : (l k : Layout) (n low m : ℕ) (raws : List ℕ) (fault : ImageError) → l.kind ≡ k.kind → words_of l ≡ words_of k → low ≤ m →
+    m + length raws ≡ words_of l → words_of l < 2 ^ 24 → AllByRecursion (λ x. x < 2 ^ 64) raws →
+    IsBodyFault k n low (lines_from l m raws ++ codes "end" ∷ []) fault → ⊥
 no_body_fault l k n low m [] fault kind count order many few all is =
     elim is [
       | inl a ↦ a.1 refl
@@ -125,7 +130,8 @@ no_body_fault l k n low m (x ∷ xs) fault kind count order many few all is =
 header_taken : (lines : List (List ℕ)) (l : Layout) (words : List ℕ) → lines ≡ image_lines l words → take 3 lines ≡ header_lines l
 header_taken lines l words is = ap (take 3) is
 
-body_dropped : (lines : List (List ℕ)) (l : Layout) (words : List ℕ) → lines ≡ image_lines l words → length words ≡ words_of l → drop 3 lines ≡ lines_from l 0 words ++ codes "end" ∷ []
+body_dropped : (lines : List (List ℕ)) (l : Layout) (words : List ℕ) → lines ≡ image_lines l words → length words ≡ words_of l →
+    drop 3 lines ≡ lines_from l 0 words ++ codes "end" ∷ []
 body_dropped lines l words is whole = ap (drop 3) is ∙ ap (λ ls. ls ++ codes "end" ∷ []) (word_lines-from l words whole)
 
 pub no_image_fault : (bytes : List ℕ) (l : Layout) (words : List ℕ) (fault : ImageError) → Accepted l → IsImageText bytes l words → IsImageFault bytes fault → ⊥
@@ -137,7 +143,8 @@ no_image_fault bytes l words fault accepted text is =
           let shape = same_shape l k accepted behind.1 (sym (header_taken (lines_of bytes) l words text.lines) ∙ behind.2) in
           let P : List (List ℕ) → Type 0 = λ ls. IsBodyFault k 4 0 ls fault in
           let many : 0 + length words ≡ words_of l = omega (arith, text.whole) in
-          no_body_fault l k 4 0 0 words fault shape.kind (words_of-same l k shape) (omega arith) many (words_of-below l accepted) text.raw (subst P (body_dropped (lines_of bytes) l words text.lines text.whole) behind.3)
+          no_body_fault l k 4 0 0 words fault shape.kind (words_of-same l k shape) (omega arith) many (words_of-below l accepted) text.raw
+          (subst P (body_dropped (lines_of bytes) l words text.lines text.whole) behind.3)
     ]
 
 -- the ways in which a line can be a fault or lead to one
@@ -170,7 +177,8 @@ data Ways (l : Layout) (n low : ℕ) (line : List ℕ) (lines : List (List ℕ))
   on : GoesOn l n low line lines fault → Ways l n low line lines fault
   none : IsNoLine n line fault → Ways l n low line lines fault
 
-ways : (l : Layout) (n low : ℕ) (line : List ℕ) (lines : List (List ℕ)) (fault : ImageError) → IsBodyFault l n low (line ∷ lines) fault → Ways l n low line lines fault
+ways : (l : Layout) (n low : ℕ) (line : List ℕ) (lines : List (List ℕ)) (fault : ImageError) → IsBodyFault l n low (line ∷ lines) fault →
+    Ways l n low line lines fault
 ways l n low line lines fault is =
     elim is [
       | inl a ↦ early (record { end = a.0; more = a.1; fault_is = a.2 })
@@ -183,7 +191,8 @@ ways l n low line lines fault is =
       ]
     ]
 
-one_body_fault : (l k : Layout) (n low : ℕ) (lines : List (List ℕ)) (e f : ImageError) → l.kind ≡ k.kind → words_of l ≡ words_of k → IsBodyFault l n low lines e → IsBodyFault k n low lines f → e ≡ f
+one_body_fault : (l k : Layout) (n low : ℕ) (lines : List (List ℕ)) (e f : ImageError) → l.kind ≡ k.kind → words_of l ≡ words_of k →
+    IsBodyFault l n low lines e → IsBodyFault k n low lines f → e ≡ f
 one_body_fault l k n low [] e f kind count one other = one ∙ sym other
 one_body_fault l k n low (line ∷ lines) e f kind count one other =
     elim (ways l n low line lines e one) [

@@ -11,3 +11,4 @@ pub mod OneReading
 pub mod OneImage
 pub mod FaultLaws
 pub mod BothWays
+pub mod ImageOrFault

@@ -4,7 +4,8 @@ use Rattle.std.specs.Prelude.{replicate}
 use Rattle.std.proofs.lemmas.List.{replicate_more}
 
 -- one value more
-pub one_zero_more : (words before after : List ℕ) (rows : ℕ) → before ≡ words ++ replicate rows 0 → after ≡ before ++ 0 ∷ [] → after ≡ words ++ replicate (rows + 1) 0
+pub one_zero_more : (words before after : List ℕ) (rows : ℕ) → before ≡ words ++ replicate rows 0 → after ≡ before ++ 0 ∷ [] →
+    after ≡ words ++ replicate (rows + 1) 0
 one_zero_more words before after rows so_far more =
     more
     ∙ ap (λ s. s ++ 0 ∷ []) so_far

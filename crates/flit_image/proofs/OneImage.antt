@@ -22,7 +22,8 @@ record SameStructure (k j : Kind) (b c : ℕ) : Type 0 where
   kind : k ≡ j
   buckets : b ≡ c
 
-structure_once : (k j : Kind) (b c : ℕ) → least_buckets k ≤ b → b ≤ most_buckets k → least_buckets j ≤ c → c ≤ most_buckets j → structure_line k b ≡ structure_line j c → SameStructure k j b c
+structure_once : (k j : Kind) (b c : ℕ) → least_buckets k ≤ b → b ≤ most_buckets k → least_buckets j ≤ c → c ≤ most_buckets j →
+    structure_line k b ≡ structure_line j c → SameStructure k j b c
 structure_once List_kind List_kind b c low high least most same = record { kind = refl; buckets = omega arith }
 structure_once Tree Tree b c low high least most same = record { kind = refl; buckets = omega arith }
 structure_once Hash Hash b c low high least most same = record {
@@ -73,16 +74,19 @@ record SameLines (l k : Layout) (words others : List ℕ) : Type 0 where
 same_lines : (l k : Layout) (words others : List ℕ) → image_lines l words ≡ image_lines k others → SameLines l k words others
 same_lines l k words others same = record { header = cc; rest = cc }
 
-pub one_shape : (bytes : List ℕ) (l k : Layout) (words others : List ℕ) → Accepted l → Accepted k → IsImageText bytes l words → IsImageText bytes k others → SameShape l k
+pub one_shape : (bytes : List ℕ) (l k : Layout) (words others : List ℕ) → Accepted l → Accepted k → IsImageText bytes l words → IsImageText bytes k others →
+    SameShape l k
 one_shape bytes l k words others accepted sound one other =
     same_shape l k accepted sound (same_lines l k words others (sym one.lines ∙ other.lines)).header
 
-pub one_list : (bytes : List ℕ) (l k : Layout) (words others : List ℕ) → Accepted l → Accepted k → IsImageText bytes l words → IsImageText bytes k others → words ≡ others
+pub one_list : (bytes : List ℕ) (l k : Layout) (words others : List ℕ) → Accepted l → Accepted k → IsImageText bytes l words → IsImageText bytes k others →
+    words ≡ others
 one_list bytes l k words others accepted sound one other =
     let same = same_lines l k words others (sym one.lines ∙ other.lines) in
     let shape = same_shape l k accepted sound same.header in
     let many : length words ≡ length others = one.whole ∙ words_of-same l k shape ∙ sym other.whole in
     let few : 0 + length words < 10 ^ 10 = omega (arith, words_of-below l accepted, one.whole) in
     let rest : lines_from l 0 words ++ codes "end" ∷ [] ≡ lines_from k 0 others ++ codes "end" ∷ [] =
-    ap (λ ls. ls ++ codes "end" ∷ []) (sym (word_lines-from l words one.whole)) ∙ same.rest ∙ ap (λ ls. ls ++ codes "end" ∷ []) (word_lines-from k others other.whole) in
+    ap (λ ls. ls ++ codes "end" ∷ []) (sym (word_lines-from l words one.whole)) ∙ same.rest
+    ∙ ap (λ ls. ls ++ codes "end" ∷ []) (word_lines-from k others other.whole) in
     words_once l k 0 words others shape.kind few many one.raw other.raw rest

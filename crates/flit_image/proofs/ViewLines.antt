@@ -15,7 +15,9 @@ use Rattle.flit_image.proofs.LinesSoFar.{all_raw-more}
 last_or_before : (k n : ℕ) → k < suc n → (k ≡ n) ⊎ (k < n)
 last_or_before k n below = elim (cases_eq k n) [ inl e ↦ inl e | inr ne ↦ inr (omega (arith, ne)) ]
 
-lent_more : (l : Layout) (raws : List ℕ) (lines : List (Bor (List ℕ))) (raw : ℕ) (line : Bor (List ℕ)) → HaveLines l raws lines → (raw ≢ initial_of l.kind (length raws) → line.now ≡ word_line (length raws) raw) → (word : ℕ) (d : Bor (List ℕ)) → word < length (raws ++ raw ∷ []) → get_or (raws ++ raw ∷ []) word 0 ≢ initial_of l.kind word → (get_or (lines ++ line ∷ []) word d).now ≡ word_line word (get_or (raws ++ raw ∷ []) word 0)
+lent_more : (l : Layout) (raws : List ℕ) (lines : List (Bor (List ℕ))) (raw : ℕ) (line : Bor (List ℕ)) → HaveLines l raws lines →
+    (raw ≢ initial_of l.kind (length raws) → line.now ≡ word_line (length raws) raw) → (word : ℕ) (d : Bor (List ℕ)) → word < length (raws ++ raw ∷ []) →
+    get_or (raws ++ raw ∷ []) word 0 ≢ initial_of l.kind word → (get_or (lines ++ line ∷ []) word d).now ≡ word_line word (get_or (raws ++ raw ∷ []) word 0)
 lent_more l raws lines raw line have here word d within told =
     elim (last_or_before word (length raws) (omega (arith, length-append raws (raw ∷ [])))) [
       | inl last ↦
@@ -32,20 +34,25 @@ lent_more l raws lines raw line have here word d within told =
           ap (λ (b : Bor (List ℕ)). b.now) line_is ∙ have.lent word d before apart ∙ ap (word_line word) (sym raw_is)
     ]
 
-have_more : (l : Layout) (raws : List ℕ) (lines : List (Bor (List ℕ))) (raw : ℕ) (line : Bor (List ℕ)) → HaveLines l raws lines → raw < 2 ^ 64 → (raw ≢ initial_of l.kind (length raws) → line.now ≡ word_line (length raws) raw) → HaveLines l (raws ++ raw ∷ []) (lines ++ line ∷ [])
+have_more : (l : Layout) (raws : List ℕ) (lines : List (Bor (List ℕ))) (raw : ℕ) (line : Bor (List ℕ)) → HaveLines l raws lines → raw < 2 ^ 64 →
+    (raw ≢ initial_of l.kind (length raws) → line.now ≡ word_line (length raws) raw) → HaveLines l (raws ++ raw ∷ []) (lines ++ line ∷ [])
 have_more l raws lines raw line have small here = record {
   raw = all_raw-more raws (raws ++ raw ∷ []) raw refl have.raw small;
   many = omega (arith, have.many, length-append raws (raw ∷ []), length-append lines (line ∷ []));
   lent = lent_more l raws lines raw line have here;
 }
 
-pub HaveLines-more : (l : Layout) (raws more : List ℕ) (lines longer : List (Bor (List ℕ))) (raw : ℕ) (line : Bor (List ℕ)) → more ≡ raws ++ raw ∷ [] → longer ≡ lines ++ line ∷ [] → HaveLines l raws lines → raw < 2 ^ 64 → (raw ≢ initial_of l.kind (length raws) → line.now ≡ word_line (length raws) raw) → HaveLines l more longer
+pub HaveLines-more : (l : Layout) (raws more : List ℕ) (lines longer : List (Bor (List ℕ))) (raw : ℕ) (line : Bor (List ℕ)) → more ≡ raws ++ raw ∷ [] →
+    longer ≡ lines ++ line ∷ [] → HaveLines l raws lines → raw < 2 ^ 64 → (raw ≢ initial_of l.kind (length raws) → line.now ≡ word_line (length raws) raw) →
+    HaveLines l more longer
 HaveLines-more l raws more lines longer raw line are those have small here =
     let P : List ℕ → Type 0 = λ ws. HaveLines l ws longer in
     let Q : List (Bor (List ℕ)) → Type 0 = λ ls. HaveLines l (raws ++ raw ∷ []) ls in
     subst P (sym are) (subst Q (sym those) (have_more l raws lines raw line have small here))
 
 -- a word that is told more
-pub HaveLines-told : (l : Layout) (raws more : List ℕ) (lines longer : List (Bor (List ℕ))) (low word raw : ℕ) (text rest : List ℕ) (line : Bor (List ℕ)) → more ≡ raws ++ raw ∷ [] → longer ≡ lines ++ line ∷ [] → HaveLines l raws lines → length raws ≡ word → BeginsWord l low text line.now word raw rest → HaveLines l more longer
+pub HaveLines-told : (l : Layout) (raws more : List ℕ) (lines longer : List (Bor (List ℕ))) (low word raw : ℕ) (text rest : List ℕ) (line : Bor (List ℕ)) →
+    more ≡ raws ++ raw ∷ [] → longer ≡ lines ++ line ∷ [] → HaveLines l raws lines → length raws ≡ word → BeginsWord l low text line.now word raw rest →
+    HaveLines l more longer
 HaveLines-told l raws more lines longer low word raw text rest line are those have at begins =
     HaveLines-more l raws more lines longer raw line are those have begins.is.raw_below (λ told. begins.is.is ∙ ap (λ k. word_line k raw) (sym at))

@@ -10,7 +10,9 @@ pub with_ends-append : (xs ys : List (List ℕ)) → with_ends (xs ++ ys) ≡ wi
 with_ends-append xs ys = flat_map-append (λ line. line ++ 10 ∷ []) xs ys
 
 -- the lines of one word more
-pub with_ends-more : (l : Layout) (words : List ℕ) (i : ℕ) (start old new : List ℕ) → i < length words → old ≡ start ++ with_ends (lines_so_far l (take i words)) → new ≡ old ++ with_ends (line_of l i (get_or words i 0)) → new ≡ start ++ with_ends (lines_so_far l (take (i + 1) words))
+pub with_ends-more : (l : Layout) (words : List ℕ) (i : ℕ) (start old new : List ℕ) → i < length words →
+    old ≡ start ++ with_ends (lines_so_far l (take i words)) → new ≡ old ++ with_ends (line_of l i (get_or words i 0)) →
+    new ≡ start ++ with_ends (lines_so_far l (take (i + 1) words))
 with_ends-more l words i start old new within before here =
     let at : length (take i words) ≡ i = omega (arith, length-take i words) in
     let more : lines_so_far l (take (i + 1) words) ≡ lines_so_far l (take i words) ++ line_of l i (get_or words i 0) =
@@ -24,7 +26,8 @@ with_ends-more l words i start old new within before here =
     ∙ ap (λ ls. start ++ with_ends ls) (sym more)
 
 -- three lines
-pub with_ends-three : (start one two all a b c : List ℕ) → one ≡ start ++ (a ++ 10 ∷ []) → two ≡ one ++ (b ++ 10 ∷ []) → all ≡ two ++ (c ++ 10 ∷ []) → all ≡ start ++ with_ends (a ∷ b ∷ c ∷ [])
+pub with_ends-three : (start one two all a b c : List ℕ) → one ≡ start ++ (a ++ 10 ∷ []) → two ≡ one ++ (b ++ 10 ∷ []) → all ≡ two ++ (c ++ 10 ∷ []) →
+    all ≡ start ++ with_ends (a ∷ b ∷ c ∷ [])
 with_ends-three start one two all a b c first second third =
     third
     ∙ ap (λ s. s ++ (c ++ 10 ∷ [])) (second ∙ ap (λ s. s ++ (b ++ 10 ∷ [])) first)
@@ -33,7 +36,8 @@ with_ends-three start one two all a b c first second third =
     ∙ ap (λ s. start ++ ((a ++ 10 ∷ []) ++ ((b ++ 10 ∷ []) ++ s))) (sym (append-nil (c ++ 10 ∷ [])))
 
 -- the header, the words and the end
-pub with_ends-image : (start head body all : List ℕ) (xs ys : List (List ℕ)) → start ≡ [] → head ≡ start ++ with_ends xs → body ≡ head ++ with_ends ys → all ≡ body ++ codes "end\n" → all ≡ with_ends (xs ++ ys ++ codes "end" ∷ [])
+pub with_ends-image : (start head body all : List ℕ) (xs ys : List (List ℕ)) → start ≡ [] → head ≡ start ++ with_ends xs → body ≡ head ++ with_ends ys →
+    all ≡ body ++ codes "end\n" → all ≡ with_ends (xs ++ ys ++ codes "end" ∷ [])
 with_ends-image start head body all xs ys empty first second third =
     third
     ∙ ap (λ s. s ++ codes "end\n") (second ∙ ap (λ s. s ++ with_ends ys) (first ∙ ap (λ s. s ++ with_ends xs) empty))

@@ -90,6 +90,13 @@ IsImageFault bytes fault =
     (IsBadHeader (lines_of bytes) × (fault ≡ BadHeader))
     ⊎ ((l : Layout) × Accepted l × (take 3 (lines_of bytes) ≡ header_lines l) × IsBodyFault l 4 0 (drop 3 (lines_of bytes)) fault)
 
+-- a text is that of some image, and it has some first fault
+abbrev pub IsSomeImageText : List ℕ → Type 0
+IsSomeImageText bytes = (l : Layout) × (words : List ℕ) × Accepted l × IsImageText bytes l words
+
+abbrev pub HasFault : List ℕ → Type 0
+HasFault bytes = (fault : ImageError) × IsImageFault bytes fault
+
 -- an error of reading a text is its first fault, unless memory ran out
 abbrev pub IsErrorOf : List ℕ → ImageError → Type 0
 IsErrorOf bytes NoMemory = Unit {0}

@@ -5,6 +5,7 @@ use Rattle.flit_words.specs.declared.layouts.Kind.{Kind}
 use Rattle.flit_words.specs.declared.layouts.Layout.{Layout}
 use Rattle.flit_words.specs.Layouts.{Accepted, least_buckets, most_buckets, initial_of}
 use Rattle.flit_words.specs.Texts.{lines_of}
+use Rattle.flit_model.specs.Recovery.{IsImageLayout}
 use Rattle.flit_image.specs.ImageTexts.{structure_line, header_lines, word_line, lines_at, IsWordLine, IsGoodWord}
 
 -- the line is the structure line of this kind and number of buckets
@@ -16,7 +17,7 @@ pub record IsStructureLine (line : List ℕ) (kind : Kind) (buckets : ℕ) : Typ
 -- the text begins with the first three lines of this layout's images, and then comes the rest
 pub record BeginsImage (text : List ℕ) (l : Layout) (rest : List ℕ) : Type 0 where
   pub accepted : Accepted l
-  pub plain : l ≡ record l { slots = 0; workers = 1; limit = 2147483647 }
+  pub plain : IsImageLayout l
   pub lines : lines_of text ≡ header_lines l ++ lines_of rest
 
 -- the text begins with the line of a word that may stand there, and then comes the rest

@@ -4,6 +4,7 @@ use Rattle.std.specs.List.{AllByRecursion}
 use denote.Ref.{Bor}
 use Rattle.flit_words.specs.declared.layouts.Layout.{Layout}
 use Rattle.flit_words.specs.Layouts.{Accepted, words_of, initial_of}
+pub use Rattle.flit_model.specs.Recovery.{IsImageLayout}
 use Rattle.flit_image.specs.ImageTexts.{word_line}
 
 -- what a caller sees of it
@@ -15,14 +16,11 @@ pub record ViewedImage : Type 0 where
 pub record HaveLines (l : Layout) (words : List ℕ) (lines : List (Bor (List ℕ))) : Type 0 where
   pub raw : AllByRecursion (λ raw. raw < 2 ^ 64) words
   pub many : length lines ≡ length words
-  pub lent : (word : ℕ) (d : Bor (List ℕ)) → word < length words → slice_index words word ≢ initial_of l.kind word → (slice_index_or lines word d).now ≡ word_line word (slice_index words word)
+  pub lent : (word : ℕ) (d : Bor (List ℕ)) → word < length words → slice_index words word ≢ initial_of l.kind word →
+      (slice_index_or lines word d).now ≡ word_line word (slice_index words word)
 
 -- all words of the layout are there, with their lines
 pub record IsView (l : Layout) (words : List ℕ) (lines : List (Bor (List ℕ))) : Type 0 where
   pub accepted : Accepted l
   pub whole : length words ≡ words_of l
   pub have : HaveLines l words lines
-
--- the layout is that of an image
-abbrev pub IsPlain : Layout → Type 0
-IsPlain l = l ≡ record l { slots = 0; workers = 1; limit = 2147483647 }

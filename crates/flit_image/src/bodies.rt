@@ -18,7 +18,8 @@ fn fill_fresh(layout: &Layout, words: &mut Vec<u64>, until: u32) -> Result<(), A
     requires raw { AllByRecursion (λ raw. raw < 2 ^ 64) words.old.items }
     ensures raw { OnOk result (AllByRecursion (λ raw. raw < 2 ^ 64) words.new.items) }
     ensures filled { OnOk result (length words.new.items ≡ until) }
-    ensures same { OnOk result (lines_so_far layout.now words.new.items ≡ lines_so_far layout.now words.old.items) }
+    ensures same { OnOk result (lines_so_far layout.now words.new.items
+        ≡ lines_so_far layout.now words.old.items) }
 {
     for word in words.len() as u32..until {
         words.push(u64::from(layout.initial(word)))?;
@@ -31,7 +32,8 @@ pub fn read_words(alloc: Global, layout: &Layout, body: &[u8]) -> Result<Vec<u64
     requires { Accepted layout.now }
     ensures whole { IfOk result (λ words. length words.items ≡ words_of layout.now) }
     ensures raw { IfOk result (λ words. AllByRecursion (λ raw. raw < 2 ^ 64) words.items) }
-    ensures lines { IfOk result (λ words. lines_of body.now ≡ word_lines layout.now words.items ++ codes "end" ∷ []) }
+    ensures lines { IfOk result (λ words. lines_of body.now ≡ word_lines layout.now words.items
+        ++ codes "end" ∷ []) }
     ensures err { IfErr result (IsBodyErrorOf layout.now (lines_of body.now)) }
 {
     let count = layout.words();

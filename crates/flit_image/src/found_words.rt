@@ -22,7 +22,8 @@ pub struct FoundWord<'a> {
 /// What is wrong with a word line where the words below `low` have had their turn.
 fn word_fault(layout: &Layout, low: u32, line: u32, word: u64, raw: u64) -> Option<ImageError>
     requires { Accepted layout.now }
-    ensures { MatchOption result (IsGoodWord layout.now low word raw) (IsWordFault layout.now line low word raw) }
+    ensures { MatchOption result (IsGoodWord layout.now low word raw)
+        (IsWordFault layout.now line low word raw) }
 {
     if word < u64::from(low) {
         return Some(ImageError::OutOfOrder { line });
@@ -45,8 +46,10 @@ pub fn next_word<'a>(
 ) -> Result<Option<FoundWord<'a>>, ImageError>
     requires accepted { Accepted layout.now }
     requires more { line + 1 < 2 ^ 32 }
-    ensures ok { IfOk result (λ found. MatchOption found (lines_of text.now ≡ codes "end" ∷ []) (λ w. BeginsWord layout.now low text.now w.line.now w.word w.raw w.rest.now)) }
-    ensures shorter { IfOk result (λ found. IfSome found (λ w. length w.rest.now < length text.now)) }
+    ensures ok { IfOk result (λ found. MatchOption found (lines_of text.now ≡ codes "end" ∷ [])
+        (λ w. BeginsWord layout.now low text.now w.line.now w.word w.raw w.rest.now)) }
+    ensures shorter { IfOk result (λ found. IfSome found
+        (λ w. length w.rest.now < length text.now)) }
     ensures err { IfErr result (IsBodyFault layout.now line low (lines_of text.now)) }
 {
     let missing = ImageError::BadLine { line };

@@ -6,22 +6,19 @@ ghost use Rattle.flit_image.specs.ImageTexts.{version_number, IsBadHeader};
 ghost use Rattle.flit_image.specs.Readings.{IsStructureLine, BeginsImage};
 
 use crate::pieces::number_behind;
-use flit_words::{Kind, Layout, first_line};
+use flit_model::image_layout;
+use flit_words::{Kind, Layout, MOST_BUCKETS, MOST_ROWS, first_line};
 
 const LIST: &[u8] = b"structure list";
 
 const TREE: &[u8] = b"structure tree";
 
-const MOST_BUCKETS: u32 = 65536;
-
-const MOST_ROWS: u32 = 1048575;
-
-const MOST_VERSION: u32 = 2147483647;
-
 /// Whether images with this first line have values.
 fn values_of(line: &[u8]) -> Option<bool>
-    ensures some { IfSome result (λ values. line.now ≡ codes "image " ++ decimal (version_number values)) }
-    ensures none { IfNone result ((values : Bool) → line.now ≢ codes "image " ++ decimal (version_number values)) }
+    ensures some { IfSome result (λ values. line.now ≡ codes "image "
+        ++ decimal (version_number values)) }
+    ensures none { IfNone result ((values : Bool) →
+        line.now ≢ codes "image " ++ decimal (version_number values)) }
 {
     let version = number_behind(line, b"image ", 2)?;
     if version == 0 {
@@ -33,7 +30,8 @@ fn values_of(line: &[u8]) -> Option<bool>
 /// The kind and the number of buckets of a structure line.
 fn structure_of(line: &[u8]) -> Option<(Kind, u32)>
     ensures some { IfSome result (λ p. IsStructureLine line.now p.0 p.1) }
-    ensures none { IfNone result ((kind : Kind) (buckets : ℕ) → ¬ IsStructureLine line.now kind buckets) }
+    ensures none { IfNone result ((kind : Kind) (buckets : ℕ) →
+        ¬ IsStructureLine line.now kind buckets) }
 {
     if line == LIST {
         return Some((Kind::List, 1));
@@ -48,10 +46,12 @@ fn structure_of(line: &[u8]) -> Option<(Kind, u32)>
     Some((Kind::Hash, buckets))
 }
 
-/// The number of rows of a line, from 1 to 1048575.
+/// The number of rows of a line, from 1 to `MOST_ROWS`.
 fn rows_of(line: &[u8]) -> Option<u32>
-    ensures some { IfSome result (λ rows. (line.now ≡ codes "rows " ++ decimal rows) × (1 ≤ rows) × (rows ≤ 1048575)) }
-    ensures none { IfNone result ((rows : ℕ) → 1 ≤ rows → rows ≤ 1048575 → line.now ≢ codes "rows " ++ decimal rows) }
+    ensures some { IfSome result (λ rows. (line.now ≡ codes "rows " ++ decimal rows) × (1 ≤ rows)
+        × (rows ≤ MOST_ROWS)) }
+    ensures none { IfNone result ((rows : ℕ) → 1 ≤ rows → rows ≤ MOST_ROWS →
+        line.now ≢ codes "rows " ++ decimal rows) }
 {
     let rows = number_behind(line, b"rows ", MOST_ROWS)?;
     if rows == 0 {
@@ -71,14 +71,5 @@ pub fn header_of(text: &[u8]) -> Option<(Layout, &[u8])>
     let values = values_of(version)?;
     let (kind, buckets) = structure_of(structure)?;
     let rows = rows_of(numbers)?;
-    let layout = Layout {
-        kind,
-        buckets,
-        rows,
-        slots: 0,
-        workers: 1,
-        limit: MOST_VERSION,
-        values,
-    };
-    Some((layout, body))
+    Some((image_layout(kind, buckets, rows, values), body))
 }

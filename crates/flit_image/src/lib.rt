@@ -5,7 +5,6 @@ mod bodies;
 mod faults;
 mod found_words;
 mod headers;
-mod images;
 mod laws;
 mod lifts;
 mod pieces;
@@ -18,7 +17,7 @@ mod word_lines;
 mod writing;
 
 pub use faults::ImageError;
-pub use images::Image;
+pub use flit_model::Image;
 pub use laws::{both_ways, image_or_fault, one_image};
 pub use lifts::lift;
 pub use pieces::{behind, cut_at};

@@ -1,12 +1,12 @@
 ghost use Rattle.std.specs.Prelude.{◌≡◌, ◌++◌, false, replicate, IfOk};
 ghost use Rattle.flit_image.specs.Images.{IsWhole, IsLifted};
 
-use crate::images::Image;
+use flit_model::Image;
 use flit_words::NoMemory;
 use std::alloc::Global;
 
 /// These words, and a 0 for each row behind them.
-fn with_zeros(alloc: Global, words: &[u64], rows: u32) -> Result<Vec<u64>, NoMemory>
+fn with_zeros(alloc: Global, words: &[u64], rows: u64) -> Result<Vec<u64>, NoMemory>
     ensures { IfOk result (λ all. all.items ≡ words.now ++ replicate rows 0) }
 {
     let mut all = Vec::from_slice(alloc, words)?;
@@ -17,14 +17,13 @@ fn with_zeros(alloc: Global, words: &[u64], rows: u32) -> Result<Vec<u64>, NoMem
     Ok(all)
 }
 
-/// The image with a value of 0 for each row.
+/// The image with a value of 0 for each row; of a whole image it is a whole one.
 pub fn lift(alloc: Global, image: &Image) -> Result<Image, NoMemory>
-    requires whole { IsWhole image.now }
-    requires bare { image.now.values ≡ false }
-    ensures whole { IfOk result IsWhole }
+    requires { image.now.values ≡ false }
+    ensures whole { IsWhole image.now → IfOk result IsWhole }
     ensures is { IfOk result (IsLifted image.now) }
 {
-    let last = image.layout().last_row();
+    let last = u64::from(image.rows) + u64::from(image.layout().first_row() - 1);
     let words = with_zeros(alloc, image.words.as_slice(), last)?;
     Ok(Image {
         kind: image.kind,

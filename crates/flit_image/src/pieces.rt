@@ -5,7 +5,8 @@ use flit_words::number_of;
 
 /// What a line has behind these words. None comes where it does not begin with them.
 pub fn behind<'a>(line: &'a [u8], words: &[u8]) -> Option<&'a [u8]>
-    ensures { MatchOption result ((rest : List ℕ) → line.now ≢ words.now ++ rest) (λ rest. line.now ≡ words.now ++ rest.now) }
+    ensures { MatchOption result ((rest : List ℕ) →
+        line.now ≢ words.now ++ rest) (λ rest. line.now ≡ words.now ++ rest.now) }
 {
     line.strip_prefix(words)
 }

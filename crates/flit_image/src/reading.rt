@@ -5,7 +5,7 @@ ghost use Rattle.flit_image.specs.ImageTexts.{IsImageText, IsErrorOf};
 use crate::bodies::read_words;
 use crate::faults::ImageError;
 use crate::headers::header_of;
-use crate::images::Image;
+use flit_model::Image;
 use std::alloc::Global;
 
 /// The image whose text these bytes are. An error other than `NoMemory` says what the first fault of the text is.

@@ -25,7 +25,8 @@ fn fill_fresh<'a>(
     requires lines { HaveLines layout.now words.old.items lines.old.items }
     ensures filled { OnOk result (length words.new.items ≡ until) }
     ensures lines { OnOk result (HaveLines layout.now words.new.items lines.new.items) }
-    ensures same { OnOk result (lines_so_far layout.now words.new.items ≡ lines_so_far layout.now words.old.items) }
+    ensures same { OnOk result (lines_so_far layout.now words.new.items ≡ lines_so_far layout.now
+        words.old.items) }
 {
     for word in words.len() as u32..until {
         words.push(u64::from(layout.initial(word)))?;
@@ -42,7 +43,8 @@ pub fn view_words<'a>(
 ) -> Result<(Vec<u64>, Vec<&'a [u8]>), ImageError>
     requires { Accepted layout.now }
     ensures view { IfOk result (λ p. IsView layout.now p.0.items p.1.items) }
-    ensures lines { IfOk result (λ p. lines_of body.now ≡ word_lines layout.now p.0.items ++ codes "end" ∷ []) }
+    ensures lines { IfOk result (λ p. lines_of body.now ≡ word_lines layout.now p.0.items ++ codes
+        "end" ∷ []) }
     ensures err { IfErr result (IsBodyErrorOf layout.now (lines_of body.now)) }
 {
     let count = layout.words();

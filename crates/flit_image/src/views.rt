@@ -1,7 +1,7 @@
 ghost use Rattle.std.specs.Prelude.{◌≡◌, ◌≢◌, ◌<◌, length, slice_index, IfOk, IfErr, IfSome, IfNone};
 ghost use Rattle.flit_words.specs.Layouts.{Accepted, words_of, initial_of};
 ghost use Rattle.flit_image.specs.ImageTexts.{word_line, IsImageText, IsErrorOf};
-ghost use Rattle.flit_image.specs.Views.{IsPlain};
+ghost use Rattle.flit_image.specs.Views.{IsImageLayout};
 
 use crate::faults::ImageError;
 use crate::headers::header_of;
@@ -32,7 +32,7 @@ impl<'a> Model for ImageView<'a> {
 /// the text is, as reading does.
 pub fn view_image<'a>(alloc: Global, bytes: &'a [u8]) -> Result<ImageView<'a>, ImageError>
     ensures accepted { IfOk result (λ view. Accepted view.layout) }
-    ensures plain { IfOk result (λ view. IsPlain view.layout) }
+    ensures plain { IfOk result (λ view. IsImageLayout view.layout) }
     ensures is { IfOk result (λ view. IsImageText bytes.now view.layout view.words) }
     ensures err { IfErr result (IsErrorOf bytes.now) }
 {
@@ -75,9 +75,12 @@ impl<'a> ImageView<'a> {
     /// The line of a word, without its LF. None comes where the word has its fresh value, and so has no line.
     pub fn line(&self, word: u32) -> Option<&'a [u8]>
         requires { word < length self.now.words }
-        ensures none { IfNone result (slice_index self.now.words word ≡ initial_of self.now.layout.kind word) }
-        ensures some { IfSome result (λ line. slice_index self.now.words word ≢ initial_of self.now.layout.kind word) }
-        ensures is { IfSome result (λ line. line.now ≡ word_line word (slice_index self.now.words word)) }
+        ensures none { IfNone result (slice_index self.now.words word ≡ initial_of
+            self.now.layout.kind word) }
+        ensures some { IfSome result (λ line. slice_index self.now.words word ≢ initial_of
+            self.now.layout.kind word) }
+        ensures is { IfSome result (λ line. line.now ≡ word_line word
+            (slice_index self.now.words word)) }
     {
         if self.words[word as usize] == u64::from(self.layout.initial(word)) {
             return None;

@@ -4,22 +4,21 @@ ghost use Rattle.flit_words.specs.Texts.{word_text};
 ghost use Rattle.flit_image.specs.ImageTexts.{IsWordLine};
 
 use crate::pieces::{behind, cut_at, number_up_to};
-use flit_words::{Word, number_of};
-
-const MOST_VERSION: u32 = 2147483647;
+use flit_words::{GREATEST_VALUE, GREATEST_VERSION, Word, number_of};
 
 /// A value, and whether a `t` stands behind it.
 fn value_of(text: &[u8]) -> Option<(u32, bool)>
     ensures some { IfSome result (λ p. text.now ≡ decimal p.0 ++ (if p.1 then codes "t" else [])) }
-    ensures none { IfNone result ((value : ℕ) (tagged : Bool) → value < 2 ^ 32 → text.now ≢ decimal value ++ (if tagged then codes "t" else [])) }
+    ensures none { IfNone result ((value : ℕ) (tagged : Bool) → value < 2 ^ 32 →
+        text.now ≢ decimal value ++ (if tagged then codes "t" else [])) }
 {
     let Some((digits, behind)) = cut_at(text, b't') else {
-        return Some((number_up_to(text, u32::MAX)?, false));
+        return Some((number_up_to(text, GREATEST_VALUE)?, false));
     };
     if !behind.is_empty() {
         return None;
     }
-    Some((number_up_to(digits, u32::MAX)?, true))
+    Some((number_up_to(digits, GREATEST_VALUE)?, true))
 }
 
 /// The raw word that a text stands for.
@@ -28,7 +27,7 @@ fn raw_of(text: &[u8]) -> Option<u64>
     ensures none { IfNone result ((raw : ℕ) → raw < 2 ^ 64 → text.now ≢ word_text raw) }
 {
     let (digits, behind) = cut_at(text, b':')?;
-    let version = number_up_to(digits, MOST_VERSION)?;
+    let version = number_up_to(digits, GREATEST_VERSION)?;
     let (value, tagged) = value_of(behind)?;
     let word = Word {
         version,
@@ -39,7 +38,7 @@ fn raw_of(text: &[u8]) -> Option<u64>
 }
 
 /// The word and the raw word of a line `word W V:X`, or `word W V:Xt` where the word is tagged: W has one
-/// to ten digits, V is at most 2147483647 and X at most 4294967295. None comes for every other line.
+/// to ten digits, V is at most `GREATEST_VERSION` and X at most `GREATEST_VALUE`. None comes for every other line.
 pub fn word_line_of(line: &[u8]) -> Option<(u64, u64)>
     ensures some { IfSome result (λ p. IsWordLine line.now p.0 p.1) }
     ensures none { IfNone result ((word raw : ℕ) → ¬ IsWordLine line.now word raw) }

@@ -5,13 +5,14 @@ ghost use Rattle.flit_image.specs.Images.{layout_of, IsWhole};
 ghost use Rattle.flit_image.specs.ImageTexts.{version_number, structure_line, word_line, word_lines, header_lines, image_text};
 ghost use Rattle.flit_image.specs.Readings.{line_of, with_ends};
 
-use crate::images::Image;
+use flit_model::Image;
 use flit_words::{Kind, Layout, NoMemory, Word};
 use std::alloc::{AllocError, Global};
 
 /// Writes the line of the version.
 fn write_version(text: &mut String, values: bool) -> Result<(), AllocError>
-    ensures { OnOk result (string_bytes text.new ≡ string_bytes text.old ++ (codes "image " ++ decimal (version_number values) ++ 10 ∷ [])) }
+    ensures { OnOk result (string_bytes text.new ≡ string_bytes text.old
+        ++ (codes "image " ++ decimal (version_number values) ++ 10 ∷ [])) }
 {
     let version = if values { 2 } else { 1 };
     writeln!(text, "image {version}")
@@ -19,7 +20,8 @@ fn write_version(text: &mut String, values: bool) -> Result<(), AllocError>
 
 /// Writes the structure line.
 fn write_structure(text: &mut String, kind: Kind, buckets: u32) -> Result<(), AllocError>
-    ensures { OnOk result (string_bytes text.new ≡ string_bytes text.old ++ (structure_line kind buckets ++ 10 ∷ [])) }
+    ensures { OnOk result (string_bytes text.new ≡ string_bytes text.old
+        ++ (structure_line kind buckets ++ 10 ∷ [])) }
 {
     match kind {
         Kind::List => writeln!(text, "structure list"),
@@ -30,14 +32,16 @@ fn write_structure(text: &mut String, kind: Kind, buckets: u32) -> Result<(), Al
 
 /// Writes the line of the rows.
 fn write_rows(text: &mut String, rows: u32) -> Result<(), AllocError>
-    ensures { OnOk result (string_bytes text.new ≡ string_bytes text.old ++ (codes "rows " ++ decimal rows ++ 10 ∷ [])) }
+    ensures { OnOk result (string_bytes text.new ≡ string_bytes text.old
+        ++ (codes "rows " ++ decimal rows ++ 10 ∷ [])) }
 {
     writeln!(text, "rows {rows}")
 }
 
 /// Writes the first three lines.
 fn write_header(text: &mut String, layout: &Layout) -> Result<(), AllocError>
-    ensures { OnOk result (string_bytes text.new ≡ string_bytes text.old ++ with_ends (header_lines layout.now)) }
+    ensures { OnOk result (string_bytes text.new ≡ string_bytes text.old
+        ++ with_ends (header_lines layout.now)) }
 {
     write_version(text, layout.values)?;
     write_structure(text, layout.kind, layout.buckets)?;
@@ -47,7 +51,8 @@ fn write_header(text: &mut String, layout: &Layout) -> Result<(), AllocError>
 
 /// Writes a word's line.
 fn write_line(text: &mut String, word: u32, raw: u64) -> Result<(), AllocError>
-    ensures { OnOk result (string_bytes text.new ≡ string_bytes text.old ++ with_ends (word_line word raw ∷ [])) }
+    ensures { OnOk result (string_bytes text.new ≡ string_bytes text.old
+        ++ with_ends (word_line word raw ∷ [])) }
 {
     let Word {
         version,
@@ -60,7 +65,8 @@ fn write_line(text: &mut String, word: u32, raw: u64) -> Result<(), AllocError>
 
 /// Writes a word's line, where it has one.
 fn write_word(text: &mut String, layout: &Layout, word: u32, raw: u64) -> Result<(), AllocError>
-    ensures { OnOk result (string_bytes text.new ≡ string_bytes text.old ++ with_ends (line_of layout.now word raw)) }
+    ensures { OnOk result (string_bytes text.new ≡ string_bytes text.old
+        ++ with_ends (line_of layout.now word raw)) }
 {
     if raw == u64::from(layout.initial(word)) {
         return Ok(());
@@ -72,7 +78,8 @@ fn write_word(text: &mut String, layout: &Layout, word: u32, raw: u64) -> Result
 fn write_words(text: &mut String, layout: &Layout, words: &[u64]) -> Result<(), AllocError>
     requires accepted { Accepted layout.now }
     requires whole { length words.now ≡ words_of layout.now }
-    ensures { OnOk result (string_bytes text.new ≡ string_bytes text.old ++ with_ends (word_lines layout.now words.now)) }
+    ensures { OnOk result (string_bytes text.new ≡ string_bytes text.old
+        ++ with_ends (word_lines layout.now words.now)) }
 {
     for (word, raw) in words.iter().enumerate() {
         write_word(text, layout, word as u32, *raw)?;
@@ -83,7 +90,8 @@ fn write_words(text: &mut String, layout: &Layout, words: &[u64]) -> Result<(), 
 /// The text of an image, each line with its LF.
 pub fn write_image(alloc: Global, image: &Image) -> Result<Vec<u8>, NoMemory>
     requires { IsWhole image.now }
-    ensures { IfOk result (λ text. text.items ≡ image_text (layout_of image.now) image.now.words.items) }
+    ensures { IfOk result (λ text. text.items
+        ≡ image_text (layout_of image.now) image.now.words.items) }
 {
     let layout = image.layout();
     let mut text = String::new(alloc);

@@ -1,10 +1,10 @@
 -- Walks along a chain: what is left of a lawful one, after a step and before it.
-use Rattle.std.proofs.Common.{◌≡◌, ◌≢◌, ◌↔◌, ℕ, zero, suc, ◌+◌, ◌≤◌, true, false, List, [], ◌∷◌, ◌++◌, append_assoc, refl, sym, ap, ◌∙◌, arith}
+use Rattle.std.proofs.Common.{◌≡◌, ◌≢◌, ◌↔◌, ℕ, zero, suc, ◌+◌, true, false, List, [], ◌∷◌, ◌++◌, append_assoc, refl, sym, ap, ◌∙◌, arith}
 use Rattle.std.specs.List.{flat_map, range_with_len}
 use Rattle.std.proofs.lemmas.List.{append-nil}
 use Rattle.flit_words.specs.declared.layouts.Layout.{Layout}
 use Rattle.flit_words.specs.declared.links.Link.{Link}
-use Rattle.flit_model.specs.Lists.{link_in, key_in, next_word, is_removed, pair_in, list_pairs, IsListLink, IsLawfulChain, IsLawfulList}
+use Rattle.flit_model.specs.Lists.{link_in, key_in, next_word, is_removed, pair_in, list_pairs, IsListLink, IsLawfulChain}
 use Rattle.flit_model.proofs.Chains.{chain_unique}
 use Rattle.flit_model.proofs.Pairs.{list_pairs-append}
 use Rattle.flit_plain.specs.declared.reached.Reached.{Reached}
@@ -18,7 +18,8 @@ module _ (l : Layout) (image : List ℕ) (head : ℕ) where
   pub lawful_end : (low word : ℕ) → (link_in image word).row ≡ 0 → IsListLink l (link_in image word) → IsLawfulFrom l image head low word []
   lawful_end low word none link = record { chain = none; links = (link, tt); rising = tt; within = tt; bucket = tt }
 
-  pub lawful_on : (low word row : ℕ) (rows : List ℕ) → LeadsOn l image head low word row → IsLawfulFrom l image head (suc (key_in l image row)) (next_word l row) rows → IsLawfulFrom l image head low word (row ∷ rows)
+  pub lawful_on : (low word row : ℕ) (rows : List ℕ) → LeadsOn l image head low word row →
+      IsLawfulFrom l image head (suc (key_in l image row)) (next_word l row) rows → IsLawfulFrom l image head low word (row ∷ rows)
   lawful_on low word row rows step rest = record {
     chain = (step.named, step.stands.given.least, step.stands.given.most, rest.chain);
     links = (step.link, rest.links);
@@ -27,7 +28,8 @@ module _ (l : Layout) (image : List ℕ) (head : ℕ) where
     bucket = (step.stands.bucket, rest.bucket);
   }
 
-  pub lawful_behind : (low word row : ℕ) (rows : List ℕ) → IsLawfulFrom l image head low word (row ∷ rows) → IsLawfulFrom l image head (suc (key_in l image row)) (next_word l row) rows
+  pub lawful_behind : (low word row : ℕ) (rows : List ℕ) → IsLawfulFrom l image head low word (row ∷ rows) →
+      IsLawfulFrom l image head (suc (key_in l image row)) (next_word l row) rows
   lawful_behind low word row rows h = record {
     chain = h.chain.3;
     links = h.links.1;
@@ -53,24 +55,28 @@ module _ (l : Layout) (image : List ℕ) (head : ℕ) where
   lawful_link low word (row ∷ rows) h = h.links.0
 
   -- a lawful chain from a word on is none, or leads on to the row that the word's link names
-  pub lawful_stands : (low word : ℕ) (rows : List ℕ) → (link_in image word).row ≢ 0 → IsLawfulFrom l image head low word rows → MayStand l image head low (link_in image word).row
+  pub lawful_stands : (low word : ℕ) (rows : List ℕ) → (link_in image word).row ≢ 0 → IsLawfulFrom l image head low word rows →
+      MayStand l image head low (link_in image word).row
   lawful_stands low word [] some h = absurd (some h.chain)
   lawful_stands low word (row ∷ rows) some h = let step = lawful_leads low word row rows h in rw step.named step.stands
 
-  pub lawful_refused : (low word : ℕ) (k : Link) → k ≡ link_in image word → k.row ≢ 0 → ¬ (MayStand l image head low k.row) → (rows : List ℕ) → ¬ (IsLawfulFrom l image head low word rows)
+  pub lawful_refused : (low word : ℕ) (k : Link) → k ≡ link_in image word → k.row ≢ 0 → ¬ (MayStand l image head low k.row) → (rows : List ℕ) →
+      ¬ (IsLawfulFrom l image head low word rows)
   lawful_refused low word k e some not_here rows h =
       let row : k.row ≡ (link_in image word).row = ap (λ (x : Link). x.row) e in
       not_here (rw row (lawful_stands low word rows (λ none. some (row ∙ none)) h))
 
   -- what is left behind a step
-  pub lawful_rest : (low word row : ℕ) (rows : List ℕ) → LeadsOn l image head low word row → IsLawfulFrom l image head low word rows → (rest : List ℕ) × (rows ≡ row ∷ rest) × IsLawfulFrom l image head (suc (key_in l image row)) (next_word l row) rest
+  pub lawful_rest : (low word row : ℕ) (rows : List ℕ) → LeadsOn l image head low word row → IsLawfulFrom l image head low word rows →
+      (rest : List ℕ) × (rows ≡ row ∷ rest) × IsLawfulFrom l image head (suc (key_in l image row)) (next_word l row) rest
   lawful_rest low word row [] step h = absurd (let none = h.chain in omega (arith, none, step.named, step.stands.given.least))
   lawful_rest low word row (other ∷ rows) step h =
       let e : other ≡ row = sym h.chain.0 ∙ step.named in
       (rows, ap (λ r. r ∷ rows) e, rw e at (lawful_behind low word other rows h))
 
   -- a lawful chain goes on with a row exactly where one goes on from the row's link
-  pub lawful_step : (low word row above next : ℕ) → LeadsOn l image head low word row → above ≡ key_in l image row + 1 → next ≡ next_word l row → ((rows : List ℕ) × IsLawfulFrom l image head low word rows) ↔ ((rows : List ℕ) × IsLawfulFrom l image head above next rows)
+  pub lawful_step : (low word row above next : ℕ) → LeadsOn l image head low word row → above ≡ key_in l image row + 1 → next ≡ next_word l row →
+      ((rows : List ℕ) × IsLawfulFrom l image head low word rows) ↔ ((rows : List ℕ) × IsLawfulFrom l image head above next rows)
   lawful_step low word row above next step key link =
       let same : above ≡ suc (key_in l image row) = omega (arith, key) in
       rw (same, link) (
@@ -96,7 +102,8 @@ module _ (l : Layout) (image : List ℕ) (head : ℕ) where
   pub reaching_start : (rows : List ℕ) (start : Reached) → IsLawfulChain l image head rows → IsReaching l image head 0 head rows start start
   reaching_start rows start h = record { rest = rows; left = lawful_from_head l image head rows h; rows = refl; pairs = refl }
 
-  pub reaching_end : (low word : ℕ) (rows : List ℕ) (start now : Reached) → IsLawfulFrom l image head low word [] → IsReaching l image head low word rows start now → Adds start now rows (list_pairs l image rows)
+  pub reaching_end : (low word : ℕ) (rows : List ℕ) (start now : Reached) → IsLawfulFrom l image head low word [] →
+      IsReaching l image head low word rows start now → Adds start now rows (list_pairs l image rows)
   reaching_end low word rows start now ends h =
       let none : h.rest ≡ [] = chain_unique l image word h.rest [] h.left.chain ends.chain in
       record {
@@ -105,12 +112,15 @@ module _ (l : Layout) (image : List ℕ) (head : ℕ) where
       }
 
   -- a walk that doesn't go on has added the whole chain
-  pub reaching_stops : (low word : ℕ) (rows : List ℕ) (start now : Reached) (n : Next) → ((row : ℕ) → n ≡ Row row → ⊥) → IsNextAt l image head low word n → IsReaching l image head low word rows start now → Adds start now rows (list_pairs l image rows)
+  pub reaching_stops : (low word : ℕ) (rows : List ℕ) (start now : Reached) (n : Next) → ((row : ℕ) → n ≡ Row row → ⊥) → IsNextAt l image head low word n →
+      IsReaching l image head low word rows start now → Adds start now rows (list_pairs l image rows)
   reaching_stops low word rows start now Broken stops none h = absurd (none h.rest h.left)
   reaching_stops low word rows start now End stops ends h = reaching_end low word rows start now ends h
   reaching_stops low word rows start now (Row row) stops step h = absurd (stops row refl)
 
-  pub reaching_step : (low word row above next : ℕ) (rows : List ℕ) (start now later : Reached) → LeadsOn l image head low word row → above ≡ key_in l image row + 1 → next ≡ next_word l row → Adds now later (row ∷ []) (list_pairs l image (row ∷ [])) → IsReaching l image head low word rows start now → IsReaching l image head above next rows start later
+  pub reaching_step : (low word row above next : ℕ) (rows : List ℕ) (start now later : Reached) → LeadsOn l image head low word row →
+      above ≡ key_in l image row + 1 → next ≡ next_word l row → Adds now later (row ∷ []) (list_pairs l image (row ∷ [])) →
+      IsReaching l image head low word rows start now → IsReaching l image head above next rows start later
   reaching_step low word row above next rows start now later step key link adds h =
       let same : above ≡ suc (key_in l image row) = omega (arith, key) in
       let rest = lawful_rest l image head low word row h.rest step h.left in
@@ -130,15 +140,18 @@ module _ (l : Layout) (image : List ℕ) where
   removed_by row next k e link = rw (← link) (ap (λ (x : Link). x.mark) (sym e))
 
   -- a row of a chain adds itself, and its pair where its own link isn't marked
-  pub adds_kept : (row : ℕ) (now later : Reached) → is_removed l image row ≡ false → later.rows.items ≡ now.rows.items ++ row ∷ [] → later.pairs.items ≡ now.pairs.items ++ pair_in l image row ∷ [] → Adds now later (row ∷ []) (list_pairs l image (row ∷ []))
+  pub adds_kept : (row : ℕ) (now later : Reached) → is_removed l image row ≡ false → later.rows.items ≡ now.rows.items ++ row ∷ [] →
+      later.pairs.items ≡ now.pairs.items ++ pair_in l image row ∷ [] → Adds now later (row ∷ []) (list_pairs l image (row ∷ []))
   adds_kept row now later kept rows pairs = record { rows = rows; pairs = rw kept pairs }
 
-  pub adds_removed : (row : ℕ) (now later : Reached) → is_removed l image row ≡ true → later.rows.items ≡ now.rows.items ++ row ∷ [] → later.pairs.items ≡ now.pairs.items → Adds now later (row ∷ []) (list_pairs l image (row ∷ []))
+  pub adds_removed : (row : ℕ) (now later : Reached) → is_removed l image row ≡ true → later.rows.items ≡ now.rows.items ++ row ∷ [] →
+      later.pairs.items ≡ now.pairs.items → Adds now later (row ∷ []) (list_pairs l image (row ∷ []))
   adds_removed row now later removed rows pairs = record { rows = rows; pairs = rw removed (pairs ∙ sym (append-nil now.pairs.items)) }
 
 -- ---- all chains
 
-pub flat_map-range_more : {X : Type 0} (part : ℕ → List X) (first n next : ℕ) → first + n ≡ next → flat_map part (range_with_len first (suc n)) ≡ flat_map part (range_with_len first n) ++ part next
+pub flat_map-range_more : {X : Type 0} (part : ℕ → List X) (first n next : ℕ) → first + n ≡ next →
+    flat_map part (range_with_len first (suc n)) ≡ flat_map part (range_with_len first n) ++ part next
 flat_map-range_more part first zero next e =
     let same : first ≡ next = omega (arith, e) in
     append-nil (part first) ∙ ap part same
@@ -147,7 +160,10 @@ flat_map-range_more part first (suc n) next e =
     ∙ sym (append_assoc (part first) (flat_map part (range_with_len (first + 1) n)) (part next))
 
 -- what a walk along one more chain leaves
-pub adds_chain : (l : Layout) (image : List ℕ) (chain : ℕ → List ℕ) (head : ℕ) (now later : Reached) → now.rows.items ≡ flat_map chain (range_with_len 0 head) → now.pairs.items ≡ list_pairs l image (flat_map chain (range_with_len 0 head)) → Adds now later (chain head) (list_pairs l image (chain head)) → (above : ℕ) → above ≡ head + 1 → (later.rows.items ≡ flat_map chain (range_with_len 0 above)) × (later.pairs.items ≡ list_pairs l image (flat_map chain (range_with_len 0 above)))
+pub adds_chain : (l : Layout) (image : List ℕ) (chain : ℕ → List ℕ) (head : ℕ) (now later : Reached) → now.rows.items ≡ flat_map chain (range_with_len 0 head) →
+    now.pairs.items ≡ list_pairs l image (flat_map chain (range_with_len 0 head)) → Adds now later (chain head) (list_pairs l image (chain head)) →
+    (above : ℕ) → above ≡ head + 1 → (later.rows.items ≡ flat_map chain (range_with_len 0 above))
+    × (later.pairs.items ≡ list_pairs l image (flat_map chain (range_with_len 0 above)))
 adds_chain l image chain head now later rows pairs adds above e =
     let next : above ≡ suc head = omega (arith, e) in
     let more = ap (λ n. flat_map chain (range_with_len 0 n)) next ∙ flat_map-range_more chain 0 head head (omega arith) in (

@@ -30,7 +30,9 @@ entries-empty {X} = no_length _ (sym (len-entries (empty {X = X} {R = nat_cmp}))
 pub entries_start : {X : Type 0} (es made : List (ℕ × X)) → made ≡ [] → made ≡ entries (from_entries {R = nat_cmp} (drop (length es) es))
 entries_start es made e = e ∙ sym (ap (λ xs. entries (from_entries {R = nat_cmp} xs)) (drop-length es) ∙ entries-empty)
 
-pub entries_step : {X : Type 0} (es made later : List (ℕ × X)) (i next : ℕ) (d : ℕ × X) → i < length es → next ≡ i + 1 → made ≡ entries (from_entries {R = nat_cmp} (drop next es)) → later ≡ insert_entry nat_cmp made (slice_index_or es i d).0 (slice_index_or es i d).1 → later ≡ entries (from_entries {R = nat_cmp} (drop i es))
+pub entries_step : {X : Type 0} (es made later : List (ℕ × X)) (i next : ℕ) (d : ℕ × X) → i < length es → next ≡ i + 1 →
+    made ≡ entries (from_entries {R = nat_cmp} (drop next es)) → later ≡ insert_entry nat_cmp made (slice_index_or es i d).0 (slice_index_or es i d).1 →
+    later ≡ entries (from_entries {R = nat_cmp} (drop i es))
 entries_step es made later i next d below above so_far e =
     let entry = slice_index_or es i d in
     let rest = from_entries {R = nat_cmp} (drop next es) in

@@ -9,7 +9,8 @@ filter_step true x xs ys zs e = ap (λ s. x ∷ s) e
 filter_step false x xs ys zs e = e
 
 -- one more number at the end of a range
-pub filter-range_more : (keep : ℕ → Bool) (first n next : ℕ) → first + n ≡ next → filter keep (range_with_len first (suc n)) ≡ filter keep (range_with_len first n) ++ cond (keep next) (next ∷ []) []
+pub filter-range_more : (keep : ℕ → Bool) (first n next : ℕ) → first + n ≡ next →
+    filter keep (range_with_len first (suc n)) ≡ filter keep (range_with_len first n) ++ cond (keep next) (next ∷ []) []
 filter-range_more keep first zero next e =
     let same : first ≡ next = omega (arith, e) in
     ap (λ k. cond (keep k) (k ∷ []) []) same
@@ -17,7 +18,8 @@ filter-range_more keep first (suc n) next e =
     filter_step (keep first) first _ _ _ (filter-range_more keep (first + 1) n next (omega (arith, e)))
 
 -- a walk over the numbers from first on that keeps those that are absent
-module _ (ns kept later : List ℕ) (first n next : ℕ) (from : first ≤ n) (above : next ≡ n + 1) (so_far : kept ≡ filter (is_absent ns) (range_with_len first (n - first))) where
+module _ (ns kept later : List ℕ) (first n next : ℕ) (from : first ≤ n) (above : next ≡ n + 1)
+    (so_far : kept ≡ filter (is_absent ns) (range_with_len first (n - first))) where
   grows : filter (is_absent ns) (range_with_len first (next - first)) ≡ kept ++ cond (is_absent ns n) (n ∷ []) []
   grows =
       let more : next - first ≡ suc (n - first) = omega arith in

@@ -17,15 +17,18 @@ module _ (e : Entry) (entries : List Entry) (start place : ℕ) (d : Entry) (so_
   rest_is : place < length entries → drop place entries ≡ slice_index_or entries place d ∷ drop (place + 1) entries
   rest_is below = drop_more entries place d below
 
-  pub goes_here : place < length entries → stands_before e (slice_index_or entries place d) ≡ true → insert entries place e ≡ take start entries ++ put_in_order e (drop start entries)
+  pub goes_here : place < length entries → stands_before e (slice_index_or entries place d) ≡ true →
+      insert entries place e ≡ take start entries ++ put_in_order e (drop start entries)
   goes_here below before =
       let this = slice_index_or entries place d in
       let behind = drop (place + 1) entries in
       let put : put_in_order e (drop place entries) ≡ e ∷ drop place entries =
-      ap (put_in_order e) (rest_is below) ∙ ap (λ b. cond b (e ∷ this ∷ behind) (this ∷ put_in_order e behind)) before ∙ ap (λ es. e ∷ es) (sym (rest_is below)) in
+      ap (put_in_order e) (rest_is below) ∙ ap (λ b. cond b (e ∷ this ∷ behind) (this ∷ put_in_order e behind)) before
+      ∙ ap (λ es. e ∷ es) (sym (rest_is below)) in
       ap (λ es. take place entries ++ es) (sym put) ∙ so_far
 
-  pub goes_on : place < length entries → stands_before e (slice_index_or entries place d) ≡ false → (next : ℕ) → next ≡ place + 1 → GoesInto e entries start next
+  pub goes_on : place < length entries → stands_before e (slice_index_or entries place d) ≡ false → (next : ℕ) → next ≡ place + 1 →
+      GoesInto e entries start next
   goes_on below behind_it next above =
       let this = slice_index_or entries place d in
       let behind = drop (place + 1) entries in
@@ -48,7 +51,8 @@ module _ (e : Entry) (entries : List Entry) (start place : ℕ) (d : Entry) (so_
 pub reads_start : (n : ℕ) (reads : List Placed) (entries : List Entry) → entries ≡ entries ++ reads_at n (drop (length reads) reads)
 reads_start n reads entries = sym (ap (λ rs. entries ++ reads_at n rs) (drop-length reads) ∙ append-nil entries)
 
-module _ (n : ℕ) (reads : List Placed) (entries now : List Entry) (i next : ℕ) (d : Placed) (below : i < length reads) (above : next ≡ i + 1) (so_far : now ≡ entries ++ reads_at n (drop next reads)) where
+module _ (n : ℕ) (reads : List Placed) (entries now : List Entry) (i next : ℕ) (d : Placed) (below : i < length reads) (above : next ≡ i + 1)
+    (so_far : now ≡ entries ++ reads_at n (drop next reads)) where
   left_is : drop i reads ≡ slice_index_or reads i d ∷ drop next reads
   left_is = drop_more reads i d below ∙ ap (λ k. slice_index_or reads i d ∷ drop k reads) (sym above)
 
@@ -56,9 +60,12 @@ module _ (n : ℕ) (reads : List Placed) (entries now : List Entry) (i next : �
   reads_at_yes r rest here = ap (λ b. in_order (map (λ q. q.entry) (cond b (r ∷ filter (λ q. q.position == n) rest) (filter (λ q. q.position == n) rest)))) here
 
   reads_at_no : (r : Placed) (rest : List Placed) → (r.position == n) ≡ false → reads_at n (r ∷ rest) ≡ reads_at n rest
-  reads_at_no r rest elsewhere = ap (λ b. in_order (map (λ q. q.entry) (cond b (r ∷ filter (λ q. q.position == n) rest) (filter (λ q. q.position == n) rest)))) elsewhere
+  reads_at_no r rest elsewhere = ap (λ b. in_order (map (λ q. q.entry) (cond b (r ∷ filter (λ q. q.position == n) rest) (filter (λ q. q.position == n) rest))))
+      elsewhere
 
-  pub reads_put : ((slice_index_or reads i d).position == n) ≡ true → (later : List Entry) → later ≡ take (length entries) now ++ put_in_order (slice_index_or reads i d).entry (drop (length entries) now) → later ≡ entries ++ reads_at n (drop i reads)
+  pub reads_put : ((slice_index_or reads i d).position == n) ≡ true → (later : List Entry) →
+      later ≡ take (length entries) now ++ put_in_order (slice_index_or reads i d).entry (drop (length entries) now) →
+      later ≡ entries ++ reads_at n (drop i reads)
   reads_put here later e =
       let r = slice_index_or reads i d in
       let rest = reads_at n (drop next reads) in
@@ -74,10 +81,13 @@ module _ (n : ℕ) (reads : List Placed) (entries now : List Entry) (i next : �
 
 -- ---- the history from the front
 
-pub history_start : (updates : List Entry) (reads : List Placed) (now : List Entry) → now ≡ [] → now ++ history_from 0 (drop 0 updates) reads ≡ history_of updates reads
+pub history_start : (updates : List Entry) (reads : List Placed) (now : List Entry) → now ≡ [] →
+    now ++ history_from 0 (drop 0 updates) reads ≡ history_of updates reads
 history_start updates reads now none = rw none refl
 
-pub history_more : (updates : List Entry) (reads : List Placed) (now later : List Entry) (i next : ℕ) (d : Entry) → i < length updates → next ≡ i + 1 → later ≡ (now ++ reads_at i reads) ++ slice_index_or updates i d ∷ [] → later ++ history_from next (drop next updates) reads ≡ now ++ history_from i (drop i updates) reads
+pub history_more : (updates : List Entry) (reads : List Placed) (now later : List Entry) (i next : ℕ) (d : Entry) → i < length updates → next ≡ i + 1 →
+    later ≡ (now ++ reads_at i reads) ++ slice_index_or updates i d ∷ [] →
+    later ++ history_from next (drop next updates) reads ≡ now ++ history_from i (drop i updates) reads
 history_more updates reads now later i next d below above e =
     let u = slice_index_or updates i d in
     let rest = history_from next (drop next updates) reads in
@@ -89,5 +99,6 @@ history_more updates reads now later i next d below above e =
     ∙ ap (λ k. now ++ (reads_at i reads ++ u ∷ history_from k (drop next updates) reads)) after
     ∙ sym (ap (λ us. now ++ history_from i us reads) left)
 
-pub history_end : (updates : List Entry) (reads : List Placed) (now : List Entry) (n : ℕ) → length updates ≤ n → now ++ history_from n (drop n updates) reads ≡ now ++ reads_at n reads
+pub history_end : (updates : List Entry) (reads : List Placed) (now : List Entry) (n : ℕ) → length updates ≤ n →
+    now ++ history_from n (drop n updates) reads ≡ now ++ reads_at n reads
 history_end updates reads now n past = ap (λ us. now ++ history_from n us reads) (drop_of_length-le updates past)

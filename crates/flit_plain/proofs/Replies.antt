@@ -1,5 +1,5 @@
 -- Calls with their replies as entries: one more at the end.
-use Rattle.std.proofs.Common.{◌≡◌, ℕ, suc, ◌+◌, ◌<◌, List, [], ◌∷◌, ◌++◌, length, take, slice_index_or, refl, sym, ap, subst, ◌∙◌, arith}
+use Rattle.std.proofs.Common.{◌≡◌, ℕ, suc, ◌+◌, ◌<◌, List, [], ◌∷◌, ◌++◌, length, take, slice_index_or, refl, sym, ap, ◌∙◌, arith}
 use Rattle.std.proofs.lemmas.List.{take_more, length-take-le, length_push}
 use Rattle.flit_model.specs.Maps.{Map, IsLegal, reply_of, map_after, map_after_all}
 use Rattle.flit_model.specs.declared.calls.Call.{Call}
@@ -15,7 +15,8 @@ pub record IsOneMore (entries more : List Entry) (c : Call) (r : Reply) : Type 0
   pub reply : entry.reply ≡ r
   pub is : more ≡ entries ++ entry ∷ []
 
-pub entries_from_push : (n : ℕ) (calls : List Call) (replies : List Reply) (c : Call) (r : Reply) → length calls ≡ length replies → IsOneMore (entries_from n calls replies) (entries_from n (calls ++ c ∷ []) (replies ++ r ∷ [])) c r
+pub entries_from_push : (n : ℕ) (calls : List Call) (replies : List Reply) (c : Call) (r : Reply) → length calls ≡ length replies →
+    IsOneMore (entries_from n calls replies) (entries_from n (calls ++ c ∷ []) (replies ++ r ∷ [])) c r
 entries_from_push n [] [] c r e = record { entry = record { worker = 1; number = n; call = c; reply = r }; call = refl; reply = refl; is = refl }
 entries_from_push n [] (s ∷ replies) c r e = absurd (omega (arith, e))
 entries_from_push n (d ∷ calls) [] c r e = absurd (omega (arith, e))
@@ -29,13 +30,15 @@ pub record IsPlayed (m after : Map) (calls : List Call) (replies : List Reply) (
   pub legal : IsLegal m (entries_of (take i calls) replies)
   pub leaves : map_after_all m (entries_of (take i calls) replies) ≡ after
 
-one_more_legal : (m after : Map) (entries more : List Entry) (c : Call) (r : Reply) → IsOneMore entries more c r → IsLegal m entries → map_after_all m entries ≡ after → r ≡ reply_of after c → IsLegal m more
+one_more_legal : (m after : Map) (entries more : List Entry) (c : Call) (r : Reply) → IsOneMore entries more c r → IsLegal m entries →
+    map_after_all m entries ≡ after → r ≡ reply_of after c → IsLegal m more
 one_more_legal m after entries more c r one legal leaves right =
     rw one.is
     (legal-append m entries (one.entry ∷ []) legal
     (one.reply ∙ right ∙ ap (λ n. reply_of n c) (sym leaves) ∙ ap (reply_of (map_after_all m entries)) (sym one.call), tt))
 
-one_more_leaves : (m after : Map) (entries more : List Entry) (c : Call) (r : Reply) → IsOneMore entries more c r → map_after_all m entries ≡ after → map_after_all m more ≡ map_after after c
+one_more_leaves : (m after : Map) (entries more : List Entry) (c : Call) (r : Reply) → IsOneMore entries more c r → map_after_all m entries ≡ after →
+    map_after_all m more ≡ map_after after c
 one_more_leaves m after entries more c r one leaves =
     ap (map_after_all m) one.is
     ∙ map_after_all-append m entries (one.entry ∷ [])
@@ -45,7 +48,9 @@ one_more_leaves m after entries more c r one leaves =
 pub played_none : (m : Map) (calls : List Call) (replies : List Reply) → replies ≡ [] → IsPlayed m m calls replies 0
 played_none m calls replies none = rw none (record { counted = refl; legal = tt; leaves = refl })
 
-pub played_more : (m after : Map) (calls : List Call) (replies : List Reply) (i next : ℕ) (d : Call) (r : Reply) → i < length calls → next ≡ i + 1 → r ≡ reply_of after (slice_index_or calls i d) → IsPlayed m after calls replies i → IsPlayed m (map_after after (slice_index_or calls i d)) calls (replies ++ r ∷ []) next
+pub played_more : (m after : Map) (calls : List Call) (replies : List Reply) (i next : ℕ) (d : Call) (r : Reply) → i < length calls → next ≡ i + 1 →
+    r ≡ reply_of after (slice_index_or calls i d) → IsPlayed m after calls replies i →
+    IsPlayed m (map_after after (slice_index_or calls i d)) calls (replies ++ r ∷ []) next
 played_more m after calls replies i next d r below above right h =
     let c = slice_index_or calls i d in
     let front = take i calls in

@@ -1,5 +1,5 @@
 -- A tree map that has what a finite map has at each key, after a call.
-use Rattle.std.proofs.Common.{◌≡◌, ℕ, cond, false, [], Option, Some, None, is_some, nat_cmp, sym, ap, ◌∙◌}
+use Rattle.std.proofs.Common.{◌≡◌, ℕ, cond, false, [], Some, None, is_some, nat_cmp, sym, ap, ◌∙◌}
 use Rattle.std.specs.Ordering.{eq_by_cmp}
 use Rattle.std.specs.Cmp.{eq_by_cmp_equiv}
 use Rattle.std.specs.BTreeMap.{BTreeMap, get, is_at}
@@ -8,7 +8,6 @@ use Rattle.std.specs.Map.{lookup}
 use Rattle.std.specs.FinMap.{get-empty, get-insert, get-remove}
 use Rattle.std.proofs.lemmas.Cmp.{nat_cmp_total}
 use Rattle.flit_model.specs.Maps.{Map, map_after}
-use Rattle.flit_model.specs.declared.calls.Call.{Call}
 use Rattle.flit_model.specs.declared.calls.Call.TheVariants.{Insert, Remove}
 use Rattle.flit_plain.specs.Playing.{HasSame}
 
@@ -16,7 +15,8 @@ tied : (k q : ℕ) → is_at (nat_cmp k) q ≡ eq_by_cmp nat_cmp q k
 tied k q = (eq_by_cmp_equiv nat_cmp_total).symm k q
 
 module _ (m : Map) (tree later : BTreeMap ℕ ℕ) (k : ℕ) (same : HasSame m tree) where
-  pub same_inserted : (v : ℕ) → is_some (get nat_cmp tree k) ≡ false → ((q : ℕ) → get nat_cmp later q ≡ cond (is_at (nat_cmp k) q) (Some v) (get nat_cmp tree q)) → HasSame (map_after m (Insert k v)) later
+  pub same_inserted : (v : ℕ) → is_some (get nat_cmp tree k) ≡ false → ((q : ℕ) →
+      get nat_cmp later q ≡ cond (is_at (nat_cmp k) q) (Some v) (get nat_cmp tree q)) → HasSame (map_after m (Insert k v)) later
   same_inserted v absent updated q =
       let none : map.contains_key m k ≡ false = sym (ap is_some (same k)) ∙ absent in
       rw none

@@ -26,7 +26,8 @@ module _ (l : Layout) (image : List ℕ) where
   edge_valued edge lo hi t h none = let leads = edge_leads l image edge lo hi t h in absurd (omega (arith, rw none at leads))
 
   -- below an edge that leads to a row without links stands that leaf, or nothing
-  pub no_leaf_at : (edge lo hi row : ℕ) → IsEdgeTo l image edge row → HasNoLinks l image row → ¬ (IsLeafAt l image edge lo hi row) → (t : Tree) → ¬ (IsTree l image edge lo hi t)
+  pub no_leaf_at : (edge lo hi row : ℕ) → IsEdgeTo l image edge row → HasNoLinks l image row → ¬ (IsLeafAt l image edge lo hi row) → (t : Tree) →
+      ¬ (IsTree l image edge lo hi t)
   no_leaf_at edge lo hi row leads bare none (Leaf r) h =
       let e : r ≡ row = sym h.reached.named ∙ leads.named in
       none (rw e at h)
@@ -38,7 +39,8 @@ module _ (l : Layout) (image : List ℕ) where
   leaf_bare edge lo hi r row e h = record { no_left = rw e at h.no_left; no_right = rw e at h.no_right }
 
   -- below an edge that leads to a row with a link stands that inner row, or nothing
-  pub no_inner_at : (edge lo hi row : ℕ) → IsEdgeTo l image edge row → ¬ (HasNoLinks l image row) → ¬ (IsInnerAt l image edge lo hi row) → (t : Tree) → ¬ (IsTree l image edge lo hi t)
+  pub no_inner_at : (edge lo hi row : ℕ) → IsEdgeTo l image edge row → ¬ (HasNoLinks l image row) → ¬ (IsInnerAt l image edge lo hi row) → (t : Tree) →
+      ¬ (IsTree l image edge lo hi t)
   no_inner_at edge lo hi row leads linked none (Leaf r) h =
       let e : r ≡ row = sym h.reached.named ∙ leads.named in
       linked (leaf_bare edge lo hi r row e h)
@@ -65,7 +67,8 @@ module _ (l : Layout) (image : List ℕ) where
 -- an element of joined lists
 pub list_any-append : {X : Type 0} (p : X → Bool) (xs ys : List X) → list_any p (xs ++ ys) ≡ (list_any p xs || list_any p ys)
 list_any-append p [] ys = refl
-list_any-append p (x ∷ xs) ys = elim (p x) as (λ b. (b || list_any p (xs ++ ys)) ≡ ((b || list_any p xs) || list_any p ys)) [ true ↦ refl | false ↦ list_any-append p xs ys ]
+list_any-append p (x ∷ xs) ys = elim (p x) as (λ b. (b || list_any p (xs ++ ys))
+    ≡ ((b || list_any p xs) || list_any p ys)) [ true ↦ refl | false ↦ list_any-append p xs ys ]
 
 or_regrouped : (a b c : Bool) → (a || (b || c)) ≡ ((a || b) || c)
 or_regrouped true b c = refl
@@ -80,7 +83,8 @@ module _ (l : Layout) (image : List ℕ) where
   tree_of_leaf edge lo hi row leaf = record { tree = Leaf row; lawful = leaf; last_row = or_none (row == 3) }
 
   module _ (edge lo hi row : ℕ) (branch : IsBranchAt l image edge lo hi row) where
-    pub tree_of_branches : (in_left in_right : Bool) → HasTree l image (left_word l row) lo (key_in l image row) in_left → HasTree l image (right_word l row) (key_in l image row) hi in_right → HasTree l image edge lo hi (((row == 3) || in_left) || in_right)
+    pub tree_of_branches : (in_left in_right : Bool) → HasTree l image (left_word l row) lo (key_in l image row) in_left →
+        HasTree l image (right_word l row) (key_in l image row) hi in_right → HasTree l image edge lo hi (((row == 3) || in_left) || in_right)
     tree_of_branches in_left in_right left right = record {
       tree = Inner row left.tree right.tree;
       lawful = (branch.inner, left.lawful, right.lawful);
@@ -99,8 +103,10 @@ module _ (l : Layout) (image : List ℕ) where
 
     -- a walk that adds the inner row, then the tree on its left, and then the one on its right, adds the whole tree
     pub adds_branches : (start at_row at_left at_right : Reached) → at_row.rows.items ≡ start.rows.items ++ row ∷ [] → at_row.pairs.items ≡ start.pairs.items
-        → ((t : Tree) → IsTree l image (left_word l row) lo (key_in l image row) t → Adds at_row at_left (rows_in_tree t) (tree_pairs l image (left_word l row) t))
-        → ((t : Tree) → IsTree l image (right_word l row) (key_in l image row) hi t → Adds at_left at_right (rows_in_tree t) (tree_pairs l image (right_word l row) t))
+        → ((t : Tree) → IsTree l image (left_word l row) lo (key_in l image row) t →
+        Adds at_row at_left (rows_in_tree t) (tree_pairs l image (left_word l row) t))
+        → ((t : Tree) → IsTree l image (right_word l row) (key_in l image row) hi t →
+        Adds at_left at_right (rows_in_tree t) (tree_pairs l image (right_word l row) t))
         → (t : Tree) → IsTree l image edge lo hi t → Adds start at_right (rows_in_tree t) (tree_pairs l image edge t)
     adds_branches start at_row at_left at_right row_added no_pair left right t h =
         let parts = branches_at l image edge lo hi row branch t h in
@@ -111,23 +117,36 @@ module _ (l : Layout) (image : List ℕ) where
         let first = left parts.left parts.left_tree in
         let second = right parts.right parts.right_tree in
         rw parts.is (record {
-          rows = second.rows ∙ ap (λ rs. rs ++ b) (first.rows ∙ ap (λ rs. rs ++ a) row_added) ∙ append_assoc (start.rows.items ++ row ∷ []) a b ∙ append_assoc start.rows.items (row ∷ []) (a ++ b);
+          rows = second.rows ∙ ap (λ rs. rs ++ b) (first.rows ∙ ap (λ rs. rs ++ a) row_added) ∙ append_assoc (start.rows.items ++ row ∷ []) a b
+              ∙ append_assoc start.rows.items (row ∷ []) (a ++ b);
           pairs = second.pairs ∙ ap (λ rs. rs ++ qs) (first.pairs ∙ ap (λ rs. rs ++ ps) no_pair) ∙ append_assoc start.pairs.items ps qs;
         })
 
   -- a walk that adds the leaf adds the whole tree
-  pub adds_leaf : (edge lo hi row : ℕ) (start now : Reached) → IsLeafAt l image edge lo hi row → Adds start now (row ∷ []) (tree_pairs l image edge (Leaf row)) → (t : Tree) → IsTree l image edge lo hi t → Adds start now (rows_in_tree t) (tree_pairs l image edge t)
+  pub adds_leaf : (edge lo hi row : ℕ) (start now : Reached) → IsLeafAt l image edge lo hi row →
+      Adds start now (row ∷ []) (tree_pairs l image edge (Leaf row)) → (t : Tree) → IsTree l image edge lo hi t →
+      Adds start now (rows_in_tree t) (tree_pairs l image edge t)
   adds_leaf edge lo hi row start now leaf adds t h =
       let same : Leaf row ≡ t = tree_unique l image edge lo hi lo hi (Leaf row) t leaf h in
       subst (λ u. Adds start now (rows_in_tree u) (tree_pairs l image edge u)) same adds
 
   -- ---- the whole tree
 
-  module _ (whole : length image ≡ words_of l) (untagged : (w : ℕ) → w < length image → is_tagged (slice_index image w) ≡ false) (fixed : (w : ℕ) → IsFixed l w → value_in image w ≡ initial_of l.kind w) (unmarked : (link_in image 4).mark ≡ false) (unfrozen : (link_in image 4).frozen ≡ false) where
+  module _ (whole : length image ≡ words_of l) (untagged : (w : ℕ) → w < length image → is_tagged (slice_index image w) ≡ false) (fixed : (w : ℕ) →
+      IsFixed l w → value_in image w ≡ initial_of l.kind w) (unmarked : (link_in image 4).mark ≡ false) (unfrozen : (link_in image 4).frozen ≡ false) where
     lawful_tree : (t : Tree) → IsTree l image 4 0 (above_keys 1) t → list_any (λ r. r == 3) (rows_in_tree t) ≡ true → IsLawfulTree l image t
-    lawful_tree t h last = record { whole = whole; untagged = λ w below. untagged w (omega arith); fixed = fixed; top = (unmarked, unfrozen); tree = h; last = last }
+    lawful_tree t h last = record {
+      whole = whole;
+      untagged = λ w below. untagged w
+          (omega arith);
+      fixed = fixed;
+      top = (unmarked, unfrozen);
+      tree = h;
+      last = last;
+    }
 
-    pub lawful_tree_if : (o : Option Bool) → IfNone o (HasNoTree l image 4 0 (above_keys 1)) → IfSome o (HasTree l image 4 0 (above_keys 1)) → (unwrap_or o false ≡ true) ↔ ((t : Tree) × IsLawfulTree l image t)
+    pub lawful_tree_if : (o : Option Bool) → IfNone o (HasNoTree l image 4 0 (above_keys 1)) → IfSome o (HasTree l image 4 0 (above_keys 1)) →
+        (unwrap_or o false ≡ true) ↔ ((t : Tree) × IsLawfulTree l image t)
     lawful_tree_if None none some = (λ e. absurd (false≢true e), λ w. absurd (none w.0 w.1.tree))
     lawful_tree_if (Some last) none some = (
       (λ e. (some.tree, lawful_tree some.tree some.lawful (some.last_row ∙ e))),

@@ -1,5 +1,5 @@
 -- Whole images: a chain for each head, and lawful images of each kind.
-use Rattle.std.proofs.Common.{◌≡◌, ◌≢◌, ◌⊎◌, ◌↔◌, ℕ, ◌<◌, ◌≤◌, List, [], length, slice_index, false, refl, sym, ap, ◌∙◌, arith, inl, inr}
+use Rattle.std.proofs.Common.{◌≡◌, ◌≢◌, ◌⊎◌, ◌↔◌, ℕ, ◌<◌, ◌≤◌, List, [], length, slice_index, false, sym, ◌∙◌, arith, inl, inr}
 use Rattle.std.proofs.lemmas.Bool.{cases_lt}
 use Rattle.flit_words.specs.declared.layouts.Layout.{Layout}
 use Rattle.flit_words.specs.declared.layouts.Kind.{Kind}
@@ -35,7 +35,15 @@ chained_kind k (inr e) tree = absurd (let apart : Hash ≡ Tree_kind = sym e ∙
 module _ (l : Layout) (image : List ℕ) where
   module _ (whole : length image ≡ words_of l) (untagged : (w : ℕ) → w < length image → is_tagged (slice_index image w) ≡ false) where
     pub lawful_list : ((h : ℕ) → h < l.buckets → (rows : List ℕ) × IsLawfulChain l image h rows) → (chain : ℕ → List ℕ) × IsLawfulList l image chain
-    lawful_list each = (chosen (IsLawfulChain l image) l.buckets each, record { whole = whole; untagged = λ w below. untagged w (omega arith); chains = chosen_is (IsLawfulChain l image) l.buckets each })
+    lawful_list each = (
+      chosen (IsLawfulChain l image) l.buckets each,
+      record {
+        whole = whole;
+        untagged = λ w below. untagged w
+            (omega arith);
+        chains = chosen_is (IsLawfulChain l image) l.buckets each;
+      },
+    )
 
   pub list_chain : (chain : ℕ → List ℕ) → IsLawfulList l image chain → (h : ℕ) → h < l.buckets → (rows : List ℕ) × IsLawfulChain l image h rows
   list_chain chain lawful h b = (chain h, lawful.chains h b)

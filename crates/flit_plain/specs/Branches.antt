@@ -1,8 +1,7 @@
 -- What one step down an edge of a tree tells.
-use Rattle.std.specs.Prelude.{◌≡◌, ℕ, ◌==◌, Bool, List}
-use Rattle.std.specs.List.{list_any}
+use Rattle.std.specs.Prelude.{◌≡◌, ℕ, Bool, List}
 use Rattle.flit_words.specs.declared.layouts.Layout.{Layout}
-use Rattle.flit_model.specs.Lists.{value_in}
+use Rattle.flit_model.specs.Lists.{value_in, stands_in}
 use Rattle.flit_model.specs.Trees.{Tree, IsTree, IsLeafAt, IsInnerAt, left_word, right_word, rows_in_tree}
 use Rattle.flit_plain.specs.declared.trees.Below.{Below}
 use Rattle.flit_plain.specs.declared.trees.Below.TheVariants.{Broken, Leaf, Inner}
@@ -25,7 +24,7 @@ HasNoTree l image edge lo hi = (t : Tree) → ¬ (IsTree l image edge lo hi t)
 pub record HasTree (l : Layout) (image : List ℕ) (edge lo hi : ℕ) (last : Bool) : Type 0 where
   pub tree : Tree
   pub lawful : IsTree l image edge lo hi tree
-  pub last_row : list_any (λ r. r == 3) (rows_in_tree tree) ≡ last
+  pub last_row : stands_in (rows_in_tree tree) 3 ≡ last
 
 -- no tree is below the edge, or a leaf is, or one may be whose first row is this inner row
 abbrev pub IsBelow : Layout → List ℕ → ℕ → ℕ → ℕ → Below → Type 0

@@ -1,9 +1,9 @@
 -- What recovery finds in an image.
-use Rattle.std.specs.Prelude.{◌≡◌, ℕ, ◌==◌, Bool, not, List}
-use Rattle.std.specs.List.{list_any}
+use Rattle.std.specs.Prelude.{◌≡◌, ℕ, Bool, not, List}
 use Rattle.std.specs.FinMap as map_of_pairs
 use Rattle.flit_words.specs.declared.layouts.Layout.{Layout}
 use Rattle.flit_model.specs.Maps.{Map}
+use Rattle.flit_model.specs.Lists.{stands_in}
 use Rattle.flit_model.specs.Images.{Recovers}
 use Rattle.flit_plain.specs.declared.images.Found.{Found}
 
@@ -15,4 +15,4 @@ pub record Finds (l : Layout) (image : List ℕ) (found : Found) : Type 0 where
 
 -- a number that isn't in a list
 abbrev pub is_absent : List ℕ → ℕ → Bool
-is_absent ns n = not (list_any (λ k. k == n) ns)
+is_absent ns n = not (stands_in ns n)

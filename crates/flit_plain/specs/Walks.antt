@@ -4,10 +4,11 @@ use Rattle.std.specs.Prelude.{◌≡◌, ℕ, ◌≤◌, List, map, length}
 use Rattle.std.specs.List.{AllByRecursion}
 use Rattle.flit_words.specs.declared.layouts.Layout.{Layout}
 use Rattle.flit_words.specs.Layouts.{Accepted, words_of, last_row_of, head_of_key}
+use Rattle.flit_words.specs.declared.limits.TheConstants.{GREATEST_KEY}
 use Rattle.flit_model.specs.Lists.{link_in, key_in, IsChain, IsListLink, link_words, IsRisingFrom}
 
 -- as many words as the layout has
-pub record IsImageOf (l : Layout) (image : List ℕ) : Type 0 where
+pub record IsSizedImage (l : Layout) (image : List ℕ) : Type 0 where
   pub accepted : Accepted l
   pub whole : length image ≡ words_of l
 
@@ -20,7 +21,7 @@ pub record IsRowOf (l : Layout) (row : ℕ) : Type 0 where
 pub record MayStand (l : Layout) (image : List ℕ) (head low row : ℕ) : Type 0 where
   pub given : IsRowOf l row
   pub above : low ≤ key_in l image row
-  pub within : key_in l image row ≤ 4294967292
+  pub within : key_in l image row ≤ GREATEST_KEY
   pub bucket : head_of_key l (key_in l image row) ≡ head
 
 -- the rest of a lawful chain of a head: the rows from a link word on, whose keys are from low on
@@ -28,5 +29,5 @@ pub record IsLawfulFrom (l : Layout) (image : List ℕ) (head low word : ℕ) (r
   pub chain : IsChain l image word rows
   pub links : AllByRecursion (λ w. IsListLink l (link_in image w)) (link_words l word rows)
   pub rising : IsRisingFrom low (map (key_in l image) rows)
-  pub within : AllByRecursion (λ r. key_in l image r ≤ 4294967292) rows
+  pub within : AllByRecursion (λ r. key_in l image r ≤ GREATEST_KEY) rows
   pub bucket : AllByRecursion (λ r. head_of_key l (key_in l image r) ≡ head) rows

@@ -1,16 +1,14 @@
 ghost use Rattle.std.specs.Prelude.{◌≡◌, ◌≢◌, ℕ, ◌<◌, ◌≤◌, ◌↔◌, List, [], ◌∷◌, length, IsTrue, IfOk, OnOk};
 ghost use Rattle.flit_words.specs.declared.layouts.Kind.TheVariants.{Tree as Tree_kind};
 ghost use Rattle.flit_model.specs.Lists.{IsLawfulChain, IsLawfulList, list_pairs, rows_on_chains};
-ghost use Rattle.flit_plain.specs.Walks.{IsImageOf, IsRowOf, MayStand};
+ghost use Rattle.flit_plain.specs.Walks.{IsSizedImage, IsRowOf, MayStand};
 ghost use Rattle.flit_plain.specs.Steps.{IsNextAt};
 ghost use Rattle.flit_plain.specs.Reaching.{Adds};
 
 use crate::reached::Reached;
 use crate::words::{has_right_remover, key_of, link_at, pair_of};
-use flit_words::{Layout, NoMemory};
+use flit_words::{GREATEST_KEY, Layout, NoMemory};
 use std::alloc::Global;
-
-const GREATEST_KEY: u32 = 4294967292;
 
 /// What a link word of a chain says.
 #[derive(Clone, Copy)]
@@ -22,7 +20,7 @@ pub(crate) enum Next {
 }
 
 fn may_stand(layout: &Layout, words: &[u64], head: u32, low: u32, row: u32) -> bool
-    requires image { IsImageOf layout.now words.now }
+    requires image { IsSizedImage layout.now words.now }
     requires chained { layout.now.kind ≢ Tree_kind }
     ensures { IsTrue result ↔ MayStand layout.now words.now head low row }
 {
@@ -34,7 +32,7 @@ fn may_stand(layout: &Layout, words: &[u64], head: u32, low: u32, row: u32) -> b
 }
 
 fn next_on_chain(layout: &Layout, words: &[u64], head: u32, low: u32, word: u32) -> Next
-    requires image { IsImageOf layout.now words.now }
+    requires image { IsSizedImage layout.now words.now }
     requires chained { layout.now.kind ≢ Tree_kind }
     requires word { word < length words.now }
     ensures { IsNextAt layout.now words.now head low word result }
@@ -53,7 +51,7 @@ fn next_on_chain(layout: &Layout, words: &[u64], head: u32, low: u32, word: u32)
 
 /// Whether a lawful image may have this chain at a head.
 pub(crate) fn is_lawful_chain(layout: &Layout, words: &[u64], head: u32) -> bool
-    requires image { IsImageOf layout.now words.now }
+    requires image { IsSizedImage layout.now words.now }
     requires chained { layout.now.kind ≢ Tree_kind }
     requires head { head < layout.now.buckets }
     ensures { IsTrue result ↔ ((rows : List ℕ) × IsLawfulChain layout.now words.now head rows) }
@@ -75,9 +73,10 @@ fn reach_row(
     row: u32,
     reached: &mut Reached,
 ) -> Result<(), NoMemory>
-    requires image { IsImageOf layout.now words.now }
+    requires image { IsSizedImage layout.now words.now }
     requires row { IsRowOf layout.now row }
-    ensures { OnOk result (Adds reached.old reached.new (row ∷ []) (list_pairs layout.now words.now (row ∷ []))) }
+    ensures { OnOk result (Adds reached.old reached.new (row ∷ [])
+        (list_pairs layout.now words.now (row ∷ []))) }
 {
     reached.rows.push(row)?;
     if !link_at(words, layout.row_word(row, 1)).mark {
@@ -93,10 +92,11 @@ fn reach_chain(
     head: u32,
     reached: &mut Reached,
 ) -> Result<(), NoMemory>
-    requires image { IsImageOf layout.now words.now }
+    requires image { IsSizedImage layout.now words.now }
     requires chained { layout.now.kind ≢ Tree_kind }
     requires head { head < layout.now.buckets }
-    ensures { OnOk result ((rows : List ℕ) → IsLawfulChain layout.now words.now head rows → Adds reached.old reached.new rows (list_pairs layout.now words.now rows)) }
+    ensures { OnOk result ((rows : List ℕ) → IsLawfulChain layout.now words.now head rows →
+        Adds reached.old reached.new rows (list_pairs layout.now words.now rows)) }
 {
     let mut word = head;
     let mut low = 0;
@@ -114,10 +114,14 @@ pub(crate) fn reached_by_chains(
     layout: &Layout,
     words: &[u64],
 ) -> Result<Reached, NoMemory>
-    requires image { IsImageOf layout.now words.now }
+    requires image { IsSizedImage layout.now words.now }
     requires chained { layout.now.kind ≢ Tree_kind }
-    ensures rows { IfOk result (λ reached. (chain : ℕ → List ℕ) → IsLawfulList layout.now words.now chain → reached.rows.items ≡ rows_on_chains layout.now chain) }
-    ensures pairs { IfOk result (λ reached. (chain : ℕ → List ℕ) → IsLawfulList layout.now words.now chain → reached.pairs.items ≡ list_pairs layout.now words.now (rows_on_chains layout.now chain)) }
+    ensures rows { IfOk result (λ reached. (chain : ℕ → List ℕ) →
+        IsLawfulList layout.now words.now chain →
+        reached.rows.items ≡ rows_on_chains layout.now chain) }
+    ensures pairs { IfOk result (λ reached. (chain : ℕ → List ℕ) →
+        IsLawfulList layout.now words.now chain →
+        reached.pairs.items ≡ list_pairs layout.now words.now (rows_on_chains layout.now chain)) }
 {
     let mut reached = Reached::new(alloc);
     for head in 0..layout.buckets {

@@ -7,7 +7,7 @@ ghost use Rattle.flit_words.specs.Words.{is_tagged};
 ghost use Rattle.flit_words.specs.Layouts.{Accepted, first_row_of};
 ghost use Rattle.flit_model.specs.Lists.{IsLawfulList};
 ghost use Rattle.flit_model.specs.Images.{Shape, IsLawful, IsLawfulAs, map_in, reached_rows};
-ghost use Rattle.flit_plain.specs.Walks.{IsImageOf};
+ghost use Rattle.flit_plain.specs.Walks.{IsSizedImage};
 ghost use Rattle.flit_plain.specs.Finding.{Finds, is_absent};
 
 use crate::chains::{is_lawful_chain, reached_by_chains};
@@ -27,7 +27,8 @@ pub struct Found {
 }
 
 fn are_untagged(words: &[u64]) -> bool
-    ensures { IsTrue result ↔ EachIndex words.now (λ w. is_tagged (slice_index words.now w) ≡ false) }
+    ensures { IsTrue result ↔ EachIndex words.now
+        (λ w. is_tagged (slice_index words.now w) ≡ false) }
 {
     for word in words {
         if Word::unpack(*word).tagged {
@@ -38,7 +39,7 @@ fn are_untagged(words: &[u64]) -> bool
 }
 
 fn is_lawful_list(layout: &Layout, words: &[u64]) -> bool
-    requires image { IsImageOf layout.now words.now }
+    requires image { IsSizedImage layout.now words.now }
     requires chained { layout.now.kind ≢ Tree_kind }
     requires untagged { EachIndex words.now (λ w. is_tagged (slice_index words.now w) ≡ false) }
     ensures { IsTrue result ↔ ((chain : ℕ → List ℕ) × IsLawfulList layout.now words.now chain) }
@@ -67,7 +68,8 @@ pub fn is_lawful(layout: &Layout, words: &[u64]) -> bool
 
 /// The pairs by rising keys. Of pairs with one key the first is there.
 fn by_rising_keys(alloc: Global, pairs: &[(u32, u32)]) -> Result<Vec<(u32, u32)>, NoMemory>
-    ensures { IfOk result (λ sorted. sorted.items ≡ map_of_pairs.entries (map_of_pairs.from_entries {R = nat_cmp} pairs.now)) }
+    ensures { IfOk result (λ sorted. sorted.items
+        ≡ map_of_pairs.entries (map_of_pairs.from_entries {R = nat_cmp} pairs.now)) }
 {
     let mut map = BTreeMap::new(alloc);
     let mut left = pairs.len();
@@ -82,7 +84,9 @@ fn by_rising_keys(alloc: Global, pairs: &[(u32, u32)]) -> Result<Vec<(u32, u32)>
 /// The rows that a call may be given and that aren't among these.
 fn free_among(alloc: Global, layout: &Layout, reached: &[u32]) -> Result<Vec<u32>, NoMemory>
     requires { Accepted layout.now }
-    ensures { IfOk result (λ free. free.items ≡ filter (is_absent reached.now) (range_with_len (first_row_of layout.now.kind) layout.now.rows)) }
+    ensures { IfOk result (λ free. free.items
+        ≡ filter (is_absent reached.now) (range_with_len (first_row_of layout.now.kind)
+        layout.now.rows)) }
 {
     let mut free = Vec::new(alloc);
     for row in layout.first_row()..layout.last_row() + 1 {
@@ -94,9 +98,11 @@ fn free_among(alloc: Global, layout: &Layout, reached: &[u32]) -> Result<Vec<u32
 }
 
 fn reached_in(alloc: Global, layout: &Layout, words: &[u64]) -> Result<Reached, NoMemory>
-    requires { IsImageOf layout.now words.now }
-    ensures rows { IfOk result (λ reached. (s : Shape) → IsLawfulAs layout.now words.now s → reached.rows.items ≡ reached_rows layout.now s) }
-    ensures pairs { IfOk result (λ reached. (s : Shape) → IsLawfulAs layout.now words.now s → map_of_pairs.from_entries reached.pairs.items ≡ map_in layout.now words.now s) }
+    requires { IsSizedImage layout.now words.now }
+    ensures rows { IfOk result (λ reached. (s : Shape) → IsLawfulAs layout.now words.now s →
+        reached.rows.items ≡ reached_rows layout.now s) }
+    ensures pairs { IfOk result (λ reached. (s : Shape) → IsLawfulAs layout.now words.now s →
+        map_of_pairs.from_entries reached.pairs.items ≡ map_in layout.now words.now s) }
 {
     match layout.kind {
         Kind::List | Kind::Hash => reached_by_chains(alloc, layout, words),

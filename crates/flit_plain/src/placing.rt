@@ -16,7 +16,8 @@ fn is_before(read: &Entry, other: &Entry) -> bool
 fn place_of(entries: &[Entry], start: usize, read: &Entry) -> usize
     requires { start ≤ length entries.now }
     ensures within { result ≤ length entries.now }
-    ensures place { insert entries.now result read.now ≡ take start entries.now ++ put_in_order read.now (drop start entries.now) }
+    ensures place { insert entries.now result read.now ≡ take start entries.now
+        ++ put_in_order read.now (drop start entries.now) }
 {
     for place in start..entries.len() {
         if is_before(read, &entries[place]) {

@@ -43,7 +43,8 @@ fn reply_to(map: &mut BTreeMap<u32, u32>, call: Call) -> Result<Reply, NoMemory>
 /// The one error is that no memory was left.
 pub fn play(alloc: Global, calls: &[Call]) -> Result<Vec<Reply>, NoMemory>
     ensures each { IfOk result (λ replies. length replies.items ≡ length calls.now) }
-    ensures legal { IfOk result (λ replies. IsLegal map.empty (entries_of calls.now replies.items)) }
+    ensures legal { IfOk result (λ replies. IsLegal map.empty
+        (entries_of calls.now replies.items)) }
 {
     let mut map = BTreeMap::new(alloc);
     let mut replies = Vec::new(alloc);

@@ -4,16 +4,16 @@ ghost use Rattle.flit_words.specs.Words.{is_tagged};
 ghost use Rattle.flit_words.specs.Layouts.{initial_of};
 ghost use Rattle.flit_model.specs.Lists.{value_in, key_in};
 ghost use Rattle.flit_model.specs.Trees.{Tree, Leaf as Tree_leaf, IsTree, IsEdgeTo, IsLeafAt, IsInnerAt, IsFixed, IsLawfulTree, left_word, right_word, rows_in_tree, tree_pairs};
-ghost use Rattle.flit_plain.specs.Walks.{IsImageOf, IsRowOf};
+ghost use Rattle.flit_plain.specs.Walks.{IsSizedImage, IsRowOf};
 ghost use Rattle.flit_plain.specs.Branches.{HasNoLinks, HasNoTree, HasTree, IsBelow};
 ghost use Rattle.flit_plain.specs.Reaching.{Adds};
 
 use crate::reached::Reached;
 use crate::words::{has_right_remover, key_of, link_at, pair_of, value_at};
-use flit_words::{Layout, NoMemory};
+use flit_words::{GREATEST_KEY, Layout, NoMemory};
 use std::alloc::Global;
 
-const ABOVE_KEYS: u32 = 4294967293;
+const ABOVE_KEYS: u32 = GREATEST_KEY + 1;
 
 const LAST_ROW: u32 = 3;
 
@@ -38,11 +38,11 @@ pub(crate) struct Edge {
 const TOP: Edge = Edge {
     word: 4,
     low: 0,
-    high: 4294967294,
+    high: ABOVE_KEYS + 1,
 };
 
 fn leads_to(layout: &Layout, words: &[u64], edge: u32, row: u32) -> bool
-    requires image { IsImageOf layout.now words.now }
+    requires image { IsSizedImage layout.now words.now }
     requires within { edge < length words.now }
     ensures { IsTrue result ↔ IsEdgeTo layout.now words.now edge row }
 {
@@ -51,7 +51,7 @@ fn leads_to(layout: &Layout, words: &[u64], edge: u32, row: u32) -> bool
 }
 
 fn is_bare(layout: &Layout, words: &[u64], row: u32) -> bool
-    requires image { IsImageOf layout.now words.now }
+    requires image { IsSizedImage layout.now words.now }
     requires grown { layout.now.kind ≡ Tree_kind }
     requires row { IsRowOf layout.now row }
     ensures { IsTrue result ↔ HasNoLinks layout.now words.now row }
@@ -62,7 +62,7 @@ fn is_bare(layout: &Layout, words: &[u64], row: u32) -> bool
 }
 
 fn is_leaf(layout: &Layout, words: &[u64], edge: Edge, row: u32) -> bool
-    requires image { IsImageOf layout.now words.now }
+    requires image { IsSizedImage layout.now words.now }
     requires grown { layout.now.kind ≡ Tree_kind }
     requires reached { IsEdgeTo layout.now words.now edge.word row }
     requires bare { HasNoLinks layout.now words.now row }
@@ -76,7 +76,7 @@ fn is_leaf(layout: &Layout, words: &[u64], edge: Edge, row: u32) -> bool
 }
 
 fn is_inner(layout: &Layout, words: &[u64], edge: Edge, row: u32) -> bool
-    requires image { IsImageOf layout.now words.now }
+    requires image { IsSizedImage layout.now words.now }
     requires grown { layout.now.kind ≡ Tree_kind }
     requires reached { IsEdgeTo layout.now words.now edge.word row }
     requires within { edge.word < length words.now }
@@ -92,7 +92,7 @@ fn is_inner(layout: &Layout, words: &[u64], edge: Edge, row: u32) -> bool
 }
 
 fn look_below(layout: &Layout, words: &[u64], edge: Edge) -> Below
-    requires image { IsImageOf layout.now words.now }
+    requires image { IsSizedImage layout.now words.now }
     requires grown { layout.now.kind ≡ Tree_kind }
     requires within { edge.word < length words.now }
     ensures { IsBelow layout.now words.now edge.word edge.low edge.high result }
@@ -115,9 +115,14 @@ fn look_below(layout: &Layout, words: &[u64], edge: Edge) -> Below
 }
 
 fn left_edge(layout: &Layout, words: &[u64], edge: Edge, row: u32) -> Edge
-    requires image { IsImageOf layout.now words.now }
+    requires image { IsSizedImage layout.now words.now }
     requires row { IsRowOf layout.now row }
-    ensures { result ≡ record { word = left_word layout.now row; low = edge.low; high = key_in layout.now words.now row } }
+    ensures { result ≡ record {
+      word = left_word layout.now row;
+      low = edge.low;
+      high = key_in
+          layout.now words.now row;
+    } }
 {
     Edge {
         word: layout.row_word(row, 1),
@@ -127,10 +132,15 @@ fn left_edge(layout: &Layout, words: &[u64], edge: Edge, row: u32) -> Edge
 }
 
 fn right_edge(layout: &Layout, words: &[u64], edge: Edge, row: u32) -> Edge
-    requires image { IsImageOf layout.now words.now }
+    requires image { IsSizedImage layout.now words.now }
     requires grown { layout.now.kind ≡ Tree_kind }
     requires row { IsRowOf layout.now row }
-    ensures { result ≡ record { word = right_word layout.now row; low = key_in layout.now words.now row; high = edge.high } }
+    ensures { result ≡ record {
+      word = right_word layout.now row;
+      low = key_in layout.now words.now
+          row;
+      high = edge.high;
+    } }
 {
     Edge {
         word: layout.row_word(row, 2),
@@ -141,7 +151,7 @@ fn right_edge(layout: &Layout, words: &[u64], edge: Edge, row: u32) -> Edge
 
 /// Whether row 3 is in the tree below an edge, or None where no lawful tree is.
 fn has_last_row(layout: &Layout, words: &[u64], edge: Edge) -> Option<bool>
-    requires image { IsImageOf layout.now words.now }
+    requires image { IsSizedImage layout.now words.now }
     requires grown { layout.now.kind ≡ Tree_kind }
     requires within { edge.word < length words.now }
     ensures none { IfNone result (HasNoTree layout.now words.now edge.word edge.low edge.high) }
@@ -166,10 +176,11 @@ fn reach_leaf(
     row: u32,
     reached: &mut Reached,
 ) -> Result<(), NoMemory>
-    requires image { IsImageOf layout.now words.now }
+    requires image { IsSizedImage layout.now words.now }
     requires row { IsRowOf layout.now row }
     requires within { edge < length words.now }
-    ensures { OnOk result (Adds reached.old reached.new (row ∷ []) (tree_pairs layout.now words.now edge (Tree_leaf row))) }
+    ensures { OnOk result (Adds reached.old reached.new (row ∷ [])
+        (tree_pairs layout.now words.now edge (Tree_leaf row))) }
 {
     reached.rows.push(row)?;
     let (key, value) = pair_of(layout, words, row);
@@ -186,10 +197,12 @@ fn reach_tree(
     edge: Edge,
     reached: &mut Reached,
 ) -> Result<(), NoMemory>
-    requires image { IsImageOf layout.now words.now }
+    requires image { IsSizedImage layout.now words.now }
     requires grown { layout.now.kind ≡ Tree_kind }
     requires within { edge.word < length words.now }
-    ensures { OnOk result ((t : Tree) → IsTree layout.now words.now edge.word edge.low edge.high t → Adds reached.old reached.new (rows_in_tree t) (tree_pairs layout.now words.now edge.word t)) }
+    ensures { OnOk result ((t : Tree) → IsTree layout.now words.now edge.word edge.low edge.high t →
+        Adds reached.old reached.new (rows_in_tree t)
+        (tree_pairs layout.now words.now edge.word t)) }
 {
     match look_below(layout, words, edge) {
         Below::Broken => Ok(()),
@@ -208,10 +221,12 @@ pub(crate) fn reached_by_tree(
     layout: &Layout,
     words: &[u64],
 ) -> Result<Reached, NoMemory>
-    requires image { IsImageOf layout.now words.now }
+    requires image { IsSizedImage layout.now words.now }
     requires grown { layout.now.kind ≡ Tree_kind }
-    ensures rows { IfOk result (λ reached. (t : Tree) → IsLawfulTree layout.now words.now t → reached.rows.items ≡ rows_in_tree t) }
-    ensures pairs { IfOk result (λ reached. (t : Tree) → IsLawfulTree layout.now words.now t → reached.pairs.items ≡ tree_pairs layout.now words.now 4 t) }
+    ensures rows { IfOk result (λ reached. (t : Tree) → IsLawfulTree layout.now words.now t →
+        reached.rows.items ≡ rows_in_tree t) }
+    ensures pairs { IfOk result (λ reached. (t : Tree) → IsLawfulTree layout.now words.now t →
+        reached.pairs.items ≡ tree_pairs layout.now words.now 4 t) }
 {
     let mut reached = Reached::new(alloc);
     reach_tree(layout, words, TOP, &mut reached)?;
@@ -221,7 +236,8 @@ pub(crate) fn reached_by_tree(
 /// Whether the words from one on and before another have their fresh values.
 fn are_fresh(layout: &Layout, words: &[u64], from: u32, until: u32) -> bool
     requires { until ≤ length words.now }
-    ensures { IsTrue result ↔ ((w : ℕ) → from ≤ w → w < until → value_in words.now w ≡ initial_of layout.now.kind w) }
+    ensures { IsTrue result ↔ ((w : ℕ) → from ≤ w → w < until →
+        value_in words.now w ≡ initial_of layout.now.kind w) }
 {
     for word in from..until {
         if value_at(words, word) != layout.initial(word) {
@@ -233,9 +249,10 @@ fn are_fresh(layout: &Layout, words: &[u64], from: u32, until: u32) -> bool
 
 /// Whether the fixed rows are as they were made.
 fn are_fixed_rows_fresh(layout: &Layout, words: &[u64]) -> bool
-    requires image { IsImageOf layout.now words.now }
+    requires image { IsSizedImage layout.now words.now }
     requires grown { layout.now.kind ≡ Tree_kind }
-    ensures { IsTrue result ↔ ((w : ℕ) → IsFixed layout.now w → value_in words.now w ≡ initial_of layout.now.kind w) }
+    ensures { IsTrue result ↔ ((w : ℕ) → IsFixed layout.now w →
+        value_in words.now w ≡ initial_of layout.now.kind w) }
 {
     if layout.values {
         let first = layout.value_word(1);
@@ -249,7 +266,7 @@ fn are_fixed_rows_fresh(layout: &Layout, words: &[u64]) -> bool
 
 /// Whether a lawful image of a tree may have these words, none of which is tagged.
 pub(crate) fn is_lawful_tree(layout: &Layout, words: &[u64]) -> bool
-    requires image { IsImageOf layout.now words.now }
+    requires image { IsSizedImage layout.now words.now }
     requires grown { layout.now.kind ≡ Tree_kind }
     requires untagged { EachIndex words.now (λ w. is_tagged (slice_index words.now w) ≡ false) }
     ensures { IsTrue result ↔ ((t : Tree) × IsLawfulTree layout.now words.now t) }

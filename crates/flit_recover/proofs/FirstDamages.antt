@@ -14,7 +14,7 @@ use Rattle.flit_recover.proofs.ListSteps.{sound_row}
 use Rattle.flit_recover.proofs.ListLaws.{lawful_undamaged, chain_damage_once}
 use Rattle.flit_recover.proofs.ListWalking.{IsSwept, swept_none, swept_more, swept_all, swept_to_damage}
 
-option_cases : {X : Type 0} (o : Option X) → (o ≡ None) ⊎ ((x : X) × (o ≡ Some x))
+pub option_cases : {X : Type 0} (o : Option X) → (o ≡ None) ⊎ ((x : X) × (o ≡ Some x))
 option_cases None = inl refl
 option_cases (Some x) = inr (x, refl)
 
@@ -22,7 +22,8 @@ option_cases (Some x) = inr (x, refl)
 
 module _ (l : Layout) (image : List ℕ) (head : ℕ) where
   -- the walk from a link word on ends, since the keys rise
-  pub sound_or_damaged : (fuel : ℕ) (reached : List ℕ) (low word : ℕ) → 4294967293 ≤ low + fuel → ((rows : List ℕ) × IsSoundFrom l image head reached low word rows) ⊎ ((rows : List ℕ) × (d : Damage) × IsDamagedFrom l image head reached low word rows d)
+  pub sound_or_damaged : (fuel : ℕ) (reached : List ℕ) (low word : ℕ) → 4294967293 ≤ low + fuel →
+      ((rows : List ℕ) × IsSoundFrom l image head reached low word rows) ⊎ ((rows : List ℕ) × (d : Damage) × IsDamagedFrom l image head reached low word rows d)
   sound_or_damaged zero reached low word enough = elim (option_cases (damage_at l image head reached low word)) [
     | inr wrong ↦ inr ([], wrong.0, wrong.1)
     | inl sound ↦ elim (cases_eq (link_in image word).row 0) [
@@ -74,7 +75,8 @@ module _ (l : Layout) (image : List ℕ) where
   ]
 
   -- a list or a hash table is lawful or has a first damage
-  pub lawful_or_damaged : l.kind ≢ Tree_kind → length image ≡ words_of l → ((chain : ℕ → List ℕ) × IsLawfulList l image chain) ⊎ ((d : Damage) × IsFirstDamage l image d)
+  pub lawful_or_damaged : l.kind ≢ Tree_kind → length image ≡ words_of l →
+      ((chain : ℕ → List ℕ) × IsLawfulList l image chain) ⊎ ((d : Damage) × IsFirstDamage l image d)
   lawful_or_damaged chained whole = elim (tag_or_none (words_of l)) [
     | inr t ↦ inr (TagSet t.word, inl (record { word = t.word; within = t.within; tagged = t.tagged; first = t.first; is = refl }))
     | inl none ↦ elim (swept_or_damaged l.buckets (omega arith)) [

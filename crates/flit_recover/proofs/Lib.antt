@@ -11,3 +11,4 @@ pub mod Recoveries
 pub mod FirstDamages
 pub mod TreeRecoveries
 pub mod TreeDamages
+pub mod TreeOrDamage

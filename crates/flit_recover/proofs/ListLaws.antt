@@ -28,7 +28,8 @@ module _ (l : Layout) (image : List ℕ) (head : ℕ) where
 
   -- ---- from sound to lawful
 
-  pub sound_lawful : l.kind ≢ Tree_kind → (reached : List ℕ) (low word : ℕ) (rows : List ℕ) → IsSoundFrom l image head reached low word rows → IsLawfulRest low word rows
+  pub sound_lawful : l.kind ≢ Tree_kind → (reached : List ℕ) (low word : ℕ) (rows : List ℕ) → IsSoundFrom l image head reached low word rows →
+      IsLawfulRest low word rows
   sound_lawful chained reached low word [] h =
       record { chain = h.1; links = ((sound_link l image head reached low word chained h.0).link, tt); rising = tt; within = tt; bucket = tt }
   sound_lawful chained reached low word (row ∷ rows) h =
@@ -46,7 +47,8 @@ module _ (l : Layout) (image : List ℕ) (head : ℕ) where
         bucket = (next.place.bucket, rest.bucket);
       }
 
-  pub sound_first : l.kind ≢ Tree_kind → (reached : List ℕ) (low word : ℕ) (rows : List ℕ) → IsSoundFrom l image head reached low word rows → LeadsRight l image word
+  pub sound_first : l.kind ≢ Tree_kind → (reached : List ℕ) (low word : ℕ) (rows : List ℕ) → IsSoundFrom l image head reached low word rows →
+      LeadsRight l image word
   sound_first chained reached low word [] h = sound_link l image head reached low word chained h.0
   sound_first chained reached low word (row ∷ rows) h = sound_link l image head reached low word chained h.0.sound
 
@@ -56,13 +58,15 @@ module _ (l : Layout) (image : List ℕ) (head : ℕ) where
   abbrev pub IsBehind : ℕ → ℕ → Type 0
   IsBehind low row = head_of_key l (key_in l image row) ≡ head → key_in l image row < low
 
-  pub behind_apart : (low : ℕ) (reached : List ℕ) (row : ℕ) → AllByRecursion (IsBehind low) reached → head_of_key l (key_in l image row) ≡ head → low ≤ key_in l image row → stands_in reached row ≡ false
+  pub behind_apart : (low : ℕ) (reached : List ℕ) (row : ℕ) → AllByRecursion (IsBehind low) reached → head_of_key l (key_in l image row) ≡ head →
+      low ≤ key_in l image row → stands_in reached row ≡ false
   behind_apart low [] row h bucket from = refl
   behind_apart low (r ∷ reached) row h bucket from = or_from (r == row) (stands_in reached row)
       (ne_eqb r row (λ e. absurd (omega (arith, from, ap (key_in l image) e, h.0 (ap (λ x. head_of_key l (key_in l image x)) e ∙ bucket)))))
       (behind_apart low reached row h.1 bucket from)
 
-  pub lawful_sound : (reached : List ℕ) (low word : ℕ) (rows : List ℕ) → IsLawfulRest low word rows → is_marked_head l image word ≡ false → AllByRecursion (IsBehind low) reached → IsSoundFrom l image head reached low word rows
+  pub lawful_sound : (reached : List ℕ) (low word : ℕ) (rows : List ℕ) → IsLawfulRest low word rows → is_marked_head l image word ≡ false →
+      AllByRecursion (IsBehind low) reached → IsSoundFrom l image head reached low word rows
   lawful_sound reached low word [] h unmarked behind =
       let none : (link_in image word).row ≡ 0 = h.chain in
       (damage_at-none l image head reached low word (record { link = h.links.0; within = omega arith; unmarked = unmarked }) (λ some. absurd (some none)), none)
@@ -83,28 +87,35 @@ module _ (l : Layout) (image : List ℕ) (head : ℕ) where
           some_row = omega arith;
         },
         lawful_sound (row ∷ reached) (suc (key_in l image row)) (next_word l row) rows (lawful_later low word row rows h)
-            (and_left (nat_lt (next_word l row) l.buckets) (link_in image (next_word l row)).mark (le-ltb (next_word l row) l.buckets (omega arith)))
-            ((λ bucket. omega arith), all_weaker (IsBehind low) (IsBehind (suc (key_in l image row))) (λ r b bucket. omega (arith, b bucket, low_key)) reached behind),
+            (and_left (nat_lt (next_word l row) l.buckets) (link_in image (next_word l row)).mark (le-ltb (next_word l row) l.buckets (omega arith))) (
+              (λ bucket. omega arith),
+              all_weaker (IsBehind low) (IsBehind (suc (key_in l image row))) (λ r b bucket. omega (arith, b bucket, low_key)) reached
+                  behind,
+            ),
       )
 
   -- ---- one damage
 
-  pub sound_undamaged : (reached : List ℕ) (low word : ℕ) (rows others : List ℕ) (d : Damage) → IsSoundFrom l image head reached low word rows → IsDamagedFrom l image head reached low word others d → ⊥
+  pub sound_undamaged : (reached : List ℕ) (low word : ℕ) (rows others : List ℕ) (d : Damage) → IsSoundFrom l image head reached low word rows →
+      IsDamagedFrom l image head reached low word others d → ⊥
   sound_undamaged reached low word [] [] d h w = let e : None ≡ Some d = sym h.0 ∙ w in cc
   sound_undamaged reached low word [] (s ∷ others) d h w = w.0.some_row (sym w.0.named ∙ h.1)
   sound_undamaged reached low word (r ∷ rows) [] d h w = let e : None ≡ Some d = sym h.0.sound ∙ w in cc
   sound_undamaged reached low word (r ∷ rows) (s ∷ others) d h w =
       let same : s ≡ r = sym w.0.named ∙ h.0.named in
-      let later : IsDamagedFrom l image head (r ∷ reached) (suc (key_in l image r)) (next_word l r) others d = subst (λ t. IsDamagedFrom l image head (t ∷ reached) (suc (key_in l image t)) (next_word l t) others d) same w.1 in
+      let later : IsDamagedFrom l image head (r ∷ reached) (suc (key_in l image r)) (next_word l r) others
+      d = subst (λ t. IsDamagedFrom l image head (t ∷ reached) (suc (key_in l image t)) (next_word l t) others d) same w.1 in
       sound_undamaged (r ∷ reached) (suc (key_in l image r)) (next_word l r) rows others d h.1 later
 
-  pub damaged_once : (reached : List ℕ) (low word : ℕ) (rows others : List ℕ) (d e : Damage) → IsDamagedFrom l image head reached low word rows d → IsDamagedFrom l image head reached low word others e → d ≡ e
+  pub damaged_once : (reached : List ℕ) (low word : ℕ) (rows others : List ℕ) (d e : Damage) → IsDamagedFrom l image head reached low word rows d →
+      IsDamagedFrom l image head reached low word others e → d ≡ e
   damaged_once reached low word [] [] d e h w = let s : Some d ≡ Some e = sym h ∙ w in cc
   damaged_once reached low word [] (s ∷ others) d e h w = absurd (let s : None ≡ Some d = sym w.0.sound ∙ h in cc)
   damaged_once reached low word (r ∷ rows) [] d e h w = absurd (let s : None ≡ Some e = sym h.0.sound ∙ w in cc)
   damaged_once reached low word (r ∷ rows) (s ∷ others) d e h w =
       let same : s ≡ r = sym w.0.named ∙ h.0.named in
-      let later : IsDamagedFrom l image head (r ∷ reached) (suc (key_in l image r)) (next_word l r) others e = subst (λ t. IsDamagedFrom l image head (t ∷ reached) (suc (key_in l image t)) (next_word l t) others e) same w.1 in
+      let later : IsDamagedFrom l image head (r ∷ reached) (suc (key_in l image r)) (next_word l r) others
+      e = subst (λ t. IsDamagedFrom l image head (t ∷ reached) (suc (key_in l image t)) (next_word l t) others e) same w.1 in
       damaged_once (r ∷ reached) (suc (key_in l image r)) (next_word l r) rows others d e h.1 later
 
 -- ---- whole images
@@ -114,7 +125,8 @@ abbrev pub AreSound : Layout → List ℕ → (ℕ → List ℕ) → ℕ → Typ
 AreSound l image chain n = (h : ℕ) → h < n → IsSoundFrom l image h (reached_before chain h) 0 h (chain h)
 
 module _ (l : Layout) (image : List ℕ) (chained : l.kind ≢ Tree_kind) where
-  pub lawful_from_sound : (chain : ℕ → List ℕ) → length image ≡ words_of l → ((w : ℕ) → w < words_of l → is_tagged (slice_index image w) ≡ false) → AreSound l image chain l.buckets → IsLawfulList l image chain
+  pub lawful_from_sound : (chain : ℕ → List ℕ) → length image ≡ words_of l → ((w : ℕ) → w < words_of l → is_tagged (slice_index image w) ≡ false) →
+      AreSound l image chain l.buckets → IsLawfulList l image chain
   lawful_from_sound chain whole untagged sound = record {
     whole = whole;
     untagged = untagged;
@@ -131,19 +143,26 @@ module _ (l : Layout) (image : List ℕ) (chained : l.kind ≢ Tree_kind) where
   }
     where
       unmarked : (h : ℕ) → h < l.buckets → (link_in image h).mark ≡ false
-      unmarked h b = elim (and_cases (nat_lt h l.buckets) (link_in image h).mark (sound_first l image h chained (reached_before chain h) 0 h (chain h) (sound h b)).unmarked) [
-        | inl past ↦ absurd (omega (arith, b, ltb-false h l.buckets past))
-        | inr e ↦ e
-      ]
+      unmarked h b = elim (and_cases (nat_lt h l.buckets) (link_in image h).mark
+          (sound_first l image h chained (reached_before chain h) 0 h (chain h) (sound h b)).unmarked) [
+            | inl past ↦ absurd (omega (arith, b, ltb-false h l.buckets past))
+            | inr e ↦ e
+          ]
 
   pub sound_from_lawful : (chain : ℕ → List ℕ) → IsLawfulList l image chain → AreSound l image chain l.buckets
   sound_from_lawful chain lawful h b =
       let c = lawful.chains h b in
-      lawful_sound l image h (reached_before chain h) 0 h (chain h) (record { chain = c.chain; links = c.links; rising = c.rising; within = c.within; bucket = c.bucket })
+      lawful_sound l image h (reached_before chain h) 0 h (chain h)
+      (record { chain = c.chain; links = c.links; rising = c.rising; within = c.within; bucket = c.bucket })
       (and_right (nat_lt h l.buckets) (link_in image h).mark c.unmarked)
       (all-flat_map (IsBehind l image h 0) chain 0 h (λ g from below.
       let less : g < l.buckets = omega arith in
-      all_weaker (λ r. head_of_key l (key_in l image r) ≡ g) (IsBehind l image h 0) (λ r at bucket. absurd (omega (arith, sym at ∙ bucket, below))) (chain g) (lawful.chains g less).bucket))
+      all_weaker (λ r. head_of_key l (key_in l image r) ≡ g) (IsBehind l image h 0) (λ r at bucket. absurd (omega (
+        arith,
+        sym at
+            ∙ bucket,
+        below,
+      ))) (chain g) (lawful.chains g less).bucket))
 
   -- two chain functions that are sound up to a head are the same up to it
   pub sound_same : (chain other : ℕ → List ℕ) (n : ℕ) → AreSound l image chain n → AreSound l image other n → reached_before chain n ≡ reached_before other n
@@ -152,7 +171,8 @@ module _ (l : Layout) (image : List ℕ) (chained : l.kind ≢ Tree_kind) where
       (sound_lawful l image h chained (reached_before chain h) 0 h (chain h) (a h (omega arith))).chain
       (sound_lawful l image h chained (reached_before other h) 0 h (other h) (b h (omega arith))).chain)
 
-  sound_at_damage : (chain : ℕ → List ℕ) (d : Damage) (w : IsChainDamage l image d) → AreSound l image chain w.head → IsSoundFrom l image w.head (reached_before chain w.head) 0 w.head (chain w.head) → ⊥
+  sound_at_damage : (chain : ℕ → List ℕ) (d : Damage) (w : IsChainDamage l image d) → AreSound l image chain w.head →
+      IsSoundFrom l image w.head (reached_before chain w.head) 0 w.head (chain w.head) → ⊥
   sound_at_damage chain d w before here =
       let same = sound_same chain w.chain w.head before w.before in
       sound_undamaged l image w.head (reached_before w.chain w.head) 0 w.head (chain w.head) w.rows d
@@ -169,8 +189,10 @@ module _ (l : Layout) (image : List ℕ) (chained : l.kind ≢ Tree_kind) where
   pub chain_damage_once : (d e : Damage) → IsChainDamage l image d → IsChainDamage l image e → d ≡ e
   chain_damage_once d e v w = elim (cases_order v.head w.head) [
     | inl same ↦
-        let alike : reached_before v.chain v.head ≡ reached_before w.chain v.head = sound_same v.chain w.chain v.head v.before (λ h b. w.before h (omega arith)) in
-        let there : IsDamagedFrom l image v.head (reached_before w.chain v.head) 0 v.head w.rows e = subst (λ h. IsDamagedFrom l image h (reached_before w.chain h) 0 h w.rows e) (sym same) w.here in
+        let alike : reached_before v.chain v.head ≡ reached_before w.chain v.head = sound_same v.chain w.chain v.head v.before
+        (λ h b. w.before h (omega arith)) in
+        let there : IsDamagedFrom l image v.head (reached_before w.chain v.head) 0 v.head w.rows
+        e = subst (λ h. IsDamagedFrom l image h (reached_before w.chain h) 0 h w.rows e) (sym same) w.here in
         damaged_once l image v.head (reached_before v.chain v.head) 0 v.head v.rows w.rows d e v.here
         (subst (λ r. IsDamagedFrom l image v.head r 0 v.head w.rows e) (sym alike) there)
     | inr apart ↦ elim apart [

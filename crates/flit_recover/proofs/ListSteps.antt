@@ -76,7 +76,8 @@ module _ (l : Layout) where
       let k = link_in image word in
       or_from (not (names_well l k) || nat_lt (last_row_of l) k.row || k.frozen) (is_marked_head image word)
       (or_from (not (names_well l k) || nat_lt (last_row_of l) k.row) k.frozen
-      (or_from (not (names_well l k)) (nat_lt (last_row_of l) k.row) (not_from_true (names_well l k) (names_well-from k h.link.remover)) (le-ltb (last_row_of l) k.row h.within))
+      (or_from (not (names_well l k)) (nat_lt (last_row_of l) k.row) (not_from_true (names_well l k) (names_well-from k h.link.remover))
+      (le-ltb (last_row_of l) k.row h.within))
       h.link.unfrozen)
       h.unmarked
 
@@ -104,22 +105,37 @@ module _ (l : Layout) (image : List ℕ) (head : ℕ) (reached : List ℕ) (low 
     pub rising : low ≤ key_in l image row
 
   pub sound_link : l.kind ≢ Tree_kind → damage_at l image head reached low word ≡ None → LeadsRight l image word
-  sound_link chained h = leads_right l image word chained (all_passed (leads_astray l image word) ((link_in image word).row == 0) (stands_in reached (link_in image word).row) (is_misplaced l head (key_in l image (link_in image word).row)) (nat_lt (key_in l image (link_in image word).row) low) _ _ _ _ h).0
+  sound_link chained h = leads_right l image word chained (all_passed (leads_astray l image word) ((link_in image word).row == 0)
+      (stands_in reached (link_in image word).row) (is_misplaced l head (key_in l image (link_in image word).row))
+      (nat_lt (key_in l image (link_in image word).row) low) _ _ _ _ h).0
 
   pub sound_row : damage_at l image head reached low word ≡ None → (link_in image word).row ≢ 0 → MayFollow (link_in image word).row
   sound_row h some =
-      let p = (all_passed (leads_astray l image word) ((link_in image word).row == 0) (stands_in reached (link_in image word).row) (is_misplaced l head (key_in l image (link_in image word).row)) (nat_lt (key_in l image (link_in image word).row) low) _ _ _ _ h).1 (ne_eqb (link_in image word).row 0 some) in
-      record { new = p.0; place = placed l head (key_in l image (link_in image word).row) p.1; rising = ltb-false (key_in l image (link_in image word).row) low p.2 }
+      let p = (all_passed (leads_astray l image word) ((link_in image word).row == 0) (stands_in reached (link_in image word).row)
+      (is_misplaced l head (key_in l image (link_in image word).row)) (nat_lt (key_in l image (link_in image word).row) low) _ _ _ _ h).1
+      (ne_eqb (link_in image word).row 0 some) in
+      record {
+        new = p.0;
+        place = placed l head (key_in l image (link_in image word).row) p.1;
+        rising = ltb-false (key_in l image (link_in image word).row) low
+            p.2;
+      }
 
-  pub damage_at-none : LeadsRight l image word → ((link_in image word).row ≢ 0 → MayFollow (link_in image word).row) → damage_at l image head reached low word ≡ None
-  damage_at-none right next = none_wrong (leads_astray l image word) ((link_in image word).row == 0) (stands_in reached (link_in image word).row) (is_misplaced l head (key_in l image (link_in image word).row)) (nat_lt (key_in l image (link_in image word).row) low) _ _ _ _
+  pub damage_at-none : LeadsRight l image word → ((link_in image word).row ≢ 0 → MayFollow (link_in image word).row) →
+      damage_at l image head reached low word ≡ None
+  damage_at-none right next = none_wrong (leads_astray l image word) ((link_in image word).row == 0) (stands_in reached (link_in image word).row)
+      (is_misplaced l head (key_in l image (link_in image word).row)) (nat_lt (key_in l image (link_in image word).row) low) _ _ _ _
       (leads_astray-from l image word right)
-      (λ some. let f = next (eqb-false (link_in image word).row 0 some) in (f.new, is_misplaced-from l head (key_in l image (link_in image word).row) f.place, le-ltb (key_in l image (link_in image word).row) low f.rising))
+      (λ some. let f = next (eqb-false (link_in image word).row 0 some) in
+      (f.new, is_misplaced-from l head (key_in l image (link_in image word).row) f.place, le-ltb (key_in l image (link_in image word).row) low f.rising))
 
   -- a row that was reached is damage
-  pub damage_at-shared : leads_astray l image word ≡ false → (link_in image word).row ≢ 0 → stands_in reached (link_in image word).row ≡ true → damage_at l image head reached low word ≡ Some (Shared (link_in image word).row)
+  pub damage_at-shared : leads_astray l image word ≡ false → (link_in image word).row ≢ 0 → stands_in reached (link_in image word).row ≡ true →
+      damage_at l image head reached low word ≡ Some (Shared (link_in image word).row)
   damage_at-shared right some old = rw (right, ne_eqb (link_in image word).row 0 some, old) refl
 
 -- the rows that were reached matter only by the test
-pub damage_at-alike : (l : Layout) (image : List ℕ) (head : ℕ) (reached others : List ℕ) (low word : ℕ) → stands_in reached (link_in image word).row ≡ stands_in others (link_in image word).row → damage_at l image head reached low word ≡ damage_at l image head others low word
+pub damage_at-alike : (l : Layout) (image : List ℕ) (head : ℕ) (reached others : List ℕ) (low word : ℕ) →
+    stands_in reached (link_in image word).row ≡ stands_in others (link_in image word).row →
+    damage_at l image head reached low word ≡ damage_at l image head others low word
 damage_at-alike l image head reached others low word e = rw e refl

@@ -22,7 +22,8 @@ module _ (rows : List ℕ) where
   rows_left first row = filter (λ r. not (stands_in rows r)) (range_with_len first (row - first))
 
   left_more : (first row : ℕ) → first ≤ row → rows_left first (row + 1) ≡ rows_left first row ++ filter (λ r. not (stands_in rows r)) (row ∷ [])
-  left_more first row le = ap (filter (λ r. not (stands_in rows r))) (rows_more first row le) ∙ filter-append (λ r. not (stands_in rows r)) (range_with_len first (row - first)) (row ∷ [])
+  left_more first row le = ap (filter (λ r. not (stands_in rows r))) (rows_more first row le)
+      ∙ filter-append (λ r. not (stands_in rows r)) (range_with_len first (row - first)) (row ∷ [])
 
   pub left_with : (first row : ℕ) → first ≤ row → stands_in rows row ≡ false → rows_left first (row + 1) ≡ rows_left first row ++ row ∷ []
   left_with first row le new = left_more first row le ∙ ap (λ b. rows_left first row ++ cond (not b) (row ∷ []) []) new
@@ -31,7 +32,8 @@ module _ (rows : List ℕ) where
   left_without first row le old = left_more first row le ∙ ap (λ b. rows_left first row ++ cond (not b) (row ∷ []) []) old ∙ append-nil (rows_left first row)
 
 -- what a mark says that was read
-pub mark_says : (last : ℕ) (marks : List Bool) (rows : List ℕ) (row : ℕ) (b : Bool) → AreMarks last marks rows → row ≤ last → b ≡ slice_index_or marks row b → stands_in rows row ≡ b
+pub mark_says : (last : ℕ) (marks : List Bool) (rows : List ℕ) (row : ℕ) (b : Bool) → AreMarks last marks rows → row ≤ last → b ≡ slice_index_or marks row b →
+    stands_in rows row ≡ b
 mark_says last marks rows row b h le read =
     let long = h.long in
     let below : row < length marks = omega arith in

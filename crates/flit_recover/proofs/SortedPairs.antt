@@ -26,13 +26,19 @@ below_rising x low (e ∷ es) less h =
 
 sorted_rising : (low : ℕ) (es : List (ℕ × ℕ)) → IsRisingFrom low (map (λ e. e.0) es) → finite.is_sorted nat_cmp es ≡ true
 sorted_rising low [] h = refl
-sorted_rising low (e ∷ es) h = and_from (below_all nat_cmp e.0 es) (finite.is_sorted nat_cmp es) (below_rising e.0 (suc e.0) es (omega arith) h.1) (sorted_rising (suc e.0) es h.1)
+sorted_rising low (e ∷ es) h = and_from (below_all nat_cmp e.0 es) (finite.is_sorted nat_cmp es) (below_rising e.0 (suc e.0) es (omega arith) h.1)
+    (sorted_rising (suc e.0) es h.1)
 
 -- ---- keys that don't fall and stand once rise
 
-rising_sorted : (low : ℕ) (es : List (ℕ × ℕ)) → ((k : ℕ) (d : ℕ × ℕ) → k < length es → low ≤ (get_or es k d).0) → IsNonDecreasingBy (λ e. e.0) es → HasKeysOnce es → IsRisingFrom low (map (λ e. e.0) es)
+rising_sorted : (low : ℕ) (es : List (ℕ × ℕ)) → ((k : ℕ) (d : ℕ × ℕ) → k < length es → low ≤ (get_or es k d).0) → IsNonDecreasingBy (λ e. e.0) es →
+    HasKeysOnce es → IsRisingFrom low (map (λ e. e.0) es)
 rising_sorted low [] from up once = tt
-rising_sorted low (e ∷ es) from up once = (from 0 e (omega arith), rising_sorted (suc e.0) es above (λ i j d le below. up (suc i) (suc j) d (omega arith) (omega arith)) (λ key. omega (arith, once key, count_by-cons (λ p. p.0 == key) e es)))
+rising_sorted low (e ∷ es) from up once = (
+  from 0 e (omega arith),
+  rising_sorted (suc e.0) es above
+      (λ i j d le below. up (suc i) (suc j) d (omega arith) (omega arith)) (λ key. omega (arith, once key, count_by-cons (λ p. p.0 == key) e es)),
+)
   where
     above : (k : ℕ) (d : ℕ × ℕ) → k < length es → suc e.0 ≤ (get_or es k d).0
     above k d below =
@@ -47,7 +53,8 @@ rising_sorted low (e ∷ es) from up once = (from 0 e (omega arith), rising_sort
 
 -- ---- the map of the pairs
 
-one_side : (key : ℕ) (xs ys : List (ℕ × ℕ)) → HasKeysOnce ys → IsPermutation xs ys → (value : ℕ) → finite.find nat_cmp key xs ≡ Some value → finite.find nat_cmp key ys ≡ Some value
+one_side : (key : ℕ) (xs ys : List (ℕ × ℕ)) → HasKeysOnce ys → IsPermutation xs ys → (value : ℕ) → finite.find nat_cmp key xs ≡ Some value →
+    finite.find nat_cmp key ys ≡ Some value
 one_side key xs ys once moved value h = contains-find key value ys (once key) (Contains-permutation xs ys (key, value) moved (find-contains key value xs h))
 
 agree : (a b : Option ℕ) → ((value : ℕ) → a ≡ Some value → b ≡ Some value) → ((value : ℕ) → b ≡ Some value → a ≡ Some value) → a ≡ b
@@ -64,7 +71,8 @@ find_moved key xs ys once moved = agree (finite.find nat_cmp key xs) (finite.fin
     (one_side key ys xs once (IsPermutation-sym xs ys moved))
 
 -- the entries of the map of pairs are the pairs in the order of their keys
-pub entries_of_rising : (low : ℕ) (pairs rising : List (ℕ × ℕ)) → IsPermutation pairs rising → IsRisingFrom low (map (λ e. e.0) rising) → finite.entries (finite.from_entries {R = nat_cmp} pairs) ≡ rising
+pub entries_of_rising : (low : ℕ) (pairs rising : List (ℕ × ℕ)) → IsPermutation pairs rising → IsRisingFrom low (map (λ e. e.0) rising) →
+    finite.entries (finite.from_entries {R = nat_cmp} pairs) ≡ rising
 entries_of_rising low pairs rising moved up =
     let sorted : T (finite.is_sorted nat_cmp rising) = subst T (sym (sorted_rising low rising up)) tt in
     let once = keys_once_moved rising pairs (IsPermutation-sym pairs rising moved) (λ key. rising_once (λ p. p.0) key low rising up) in
@@ -72,5 +80,7 @@ entries_of_rising low pairs rising moved up =
     (λ key. finite.get-from_entries nat_cmp_total pairs key ∙ find_moved key pairs rising once moved ∙ sym (finite.get-from_sorted nat_cmp rising key sorted)))
     ∙ finite.entries-from_sorted nat_cmp rising sorted
 
-pub entries_of_sorted : (pairs sorted : List (ℕ × ℕ)) → HasKeysOnce pairs → IsPermutation pairs sorted → IsNonDecreasingBy (λ p. p.0) sorted → finite.entries (finite.from_entries {R = nat_cmp} pairs) ≡ sorted
-entries_of_sorted pairs sorted once moved up = entries_of_rising 0 pairs sorted moved (rising_sorted 0 sorted (λ k d below. omega arith) up (keys_once_moved pairs sorted moved once))
+pub entries_of_sorted : (pairs sorted : List (ℕ × ℕ)) → HasKeysOnce pairs → IsPermutation pairs sorted → IsNonDecreasingBy (λ p. p.0) sorted →
+    finite.entries (finite.from_entries {R = nat_cmp} pairs) ≡ sorted
+entries_of_sorted pairs sorted once moved up = entries_of_rising 0 pairs sorted moved
+    (rising_sorted 0 sorted (λ k d below. omega arith) up (keys_once_moved pairs sorted moved once))

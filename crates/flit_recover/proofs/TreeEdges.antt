@@ -49,7 +49,8 @@ module _ (l : Layout) (image : List ℕ) (edge lo hi : ℕ) (reached : List ℕ)
   edge_sound : IsSoundEdge l image edge lo hi reached (link_in image edge).row → edge_damage l image edge lo hi reached ≡ None
   edge_sound h =
       first_passes _ _ _ (not_from_true (leads_to_row l image edge) h.leads)
-      (first_passes _ _ _ h.apart (first_passes _ _ _ h.left (first_passes _ _ _ h.right (first_passes _ _ _ h.placed (first_passes _ _ _ h.ordered (first_passes _ _ _ h.bits refl))))))
+      (first_passes _ _ _ h.apart (first_passes _ _ _ h.left (first_passes _ _ _ h.right
+      (first_passes _ _ _ h.placed (first_passes _ _ _ h.ordered (first_passes _ _ _ h.bits refl))))))
 
   pub reaches_parts : (row : ℕ) → Reaches l image edge lo hi reached row → IsSoundEdge l image edge lo hi reached row
   reaches_parts row h = subst (IsSoundEdge l image edge lo hi reached) h.named (sound_edge h.sound)
@@ -62,7 +63,8 @@ module _ (l : Layout) (image : List ℕ) (edge lo hi : ℕ) (reached : List ℕ)
 
 -- ---- what the checks tell
 
-pub edge_leads : (l : Layout) (image : List ℕ) (edge lo hi : ℕ) (reached : List ℕ) (row : ℕ) → IsSoundEdge l image edge lo hi reached row → IsEdgeTo l image edge row
+pub edge_leads : (l : Layout) (image : List ℕ) (edge lo hi : ℕ) (reached : List ℕ) (row : ℕ) → IsSoundEdge l image edge lo hi reached row →
+    IsEdgeTo l image edge row
 edge_leads l image edge lo hi reached row h =
     let parts = and_parts (((link_in image edge).by == 0) && not ((link_in image edge).row == 0)) (nat_le (link_in image edge).row (last_row_of l)) h.leads in
     let front = and_parts ((link_in image edge).by == 0) (not ((link_in image edge).row == 0)) parts.0 in
@@ -96,7 +98,8 @@ zero_nowhere image word e = (
 )
 
 leads_somewhere : (image : List ℕ) (word : ℕ) → 1 ≤ (link_in image word).row → leads_nowhere image word ≡ false
-leads_somewhere image word h = and_right ((link_in image word).by == 0) ((link_in image word).row == 0) (ne_eqb (link_in image word).row 0 (λ e. omega (arith, e, h)))
+leads_somewhere image word h = and_right ((link_in image word).by == 0) ((link_in image word).row == 0)
+    (ne_eqb (link_in image word).row 0 (λ e. omega (arith, e, h)))
 
 -- of two links of which neither is odd one leads nowhere where the other does, without bits
 not_odd : (here there bit : Bool) → (here && (if there then bit else true)) ≡ false → here ≡ true → (there ≡ true) × (bit ≡ false)
@@ -109,11 +112,14 @@ even_ends here there bit e f = rw (f, e) (and_right here false refl)
 
 module _ (l : Layout) (image : List ℕ) (edge lo hi : ℕ) (reached : List ℕ) (row : ℕ) (h : IsSoundEdge l image edge lo hi reached row) where
   key_below : key_in l image row < hi
-  key_below = leb-false hi (key_in l image row) (or_parts (nat_le hi (key_in l image row)) (if is_leaf l image row then nat_lt (key_in l image row) lo else nat_le (key_in l image row) lo) h.ordered).0
+  key_below = leb-false hi (key_in l image row) (or_parts (nat_le hi (key_in l image row))
+      (if is_leaf l image row then nat_lt (key_in l image row) lo else nat_le (key_in l image row) lo) h.ordered).0
 
-  wrong_bits : (((edge == 4) && has_bit image edge) ≡ false) × (((link_in image edge).mark && (not (is_leaf l image row) || (row == 3))) ≡ false) × (((link_in image edge).frozen && not (link_in image (other_edge edge)).mark) ≡ false)
+  wrong_bits : (((edge == 4) && has_bit image edge) ≡ false) × (((link_in image edge).mark && (not (is_leaf l image row) || (row == 3))) ≡ false)
+      × (((link_in image edge).frozen && not (link_in image (other_edge edge)).mark) ≡ false)
   wrong_bits =
-      let parts = or_parts (((edge == 4) && has_bit image edge) || ((link_in image edge).mark && (not (is_leaf l image row) || (row == 3)))) ((link_in image edge).frozen && not (link_in image (other_edge edge)).mark) h.bits in
+      let parts = or_parts (((edge == 4) && has_bit image edge) || ((link_in image edge).mark && (not (is_leaf l image row) || (row == 3))))
+      ((link_in image edge).frozen && not (link_in image (other_edge edge)).mark) h.bits in
       let front = or_parts ((edge == 4) && has_bit image edge) ((link_in image edge).mark && (not (is_leaf l image row) || (row == 3))) parts.0 in
       (front.0, front.1, parts.1)
 
@@ -142,7 +148,8 @@ module _ (l : Layout) (image : List ℕ) (edge lo hi : ℕ) (reached : List ℕ)
   pub sound_leaf : is_leaf l image row ≡ true → IsLeafAt l image edge lo hi row
   sound_leaf leaf =
       let left_ends = not_odd (leads_nowhere image (left_word l row)) (leads_nowhere image (right_word l row)) (has_bit image (left_word l row)) h.left leaf in
-      let right_ends = not_odd (leads_nowhere image (right_word l row)) (leads_nowhere image (left_word l row)) (has_bit image (right_word l row)) h.right left_ends.0 in
+      let right_ends = not_odd (leads_nowhere image (right_word l row)) (leads_nowhere image (left_word l row)) (has_bit image (right_word l row)) h.right
+      left_ends.0 in
       let order = or_parts (nat_le hi (key_in l image row)) (nat_lt (key_in l image row) lo) (rw leaf at h.ordered) in
       record {
         reached = edge_leads l image edge lo hi reached row h;
@@ -160,7 +167,8 @@ module _ (l : Layout) (image : List ℕ) (edge lo hi : ℕ) (reached : List ℕ)
         stays = λ m. (flag_allowed m).1;
       }
 
-  pub sound_inner : is_leaf l image row ≡ false → ((link_in image (left_word l row)).frozen ≡ true → (link_in image (right_word l row)).mark ≡ true) → ((link_in image (right_word l row)).frozen ≡ true → (link_in image (left_word l row)).mark ≡ true) → IsInnerAt l image edge lo hi row
+  pub sound_inner : is_leaf l image row ≡ false → ((link_in image (left_word l row)).frozen ≡ true → (link_in image (right_word l row)).mark ≡ true) →
+      ((link_in image (right_word l row)).frozen ≡ true → (link_in image (left_word l row)).mark ≡ true) → IsInnerAt l image edge lo hi row
   sound_inner inner left right =
       let order = or_parts (nat_le hi (key_in l image row)) (nat_le (key_in l image row) lo) (rw inner at h.ordered) in
       record {
@@ -186,20 +194,24 @@ module _ (l : Layout) (kind : l.kind ≡ Tree_kind) (image : List ℕ) where
       let some : (link_in image edge).row ≢ 0 = λ e. omega (arith, e, h.named, h.least) in
       let within : (link_in image edge).row ≤ last_row_of l = rw h.named h.most in
       and_from (((link_in image edge).by == 0) && not ((link_in image edge).row == 0)) (nat_le (link_in image edge).row (last_row_of l))
-      (and_from ((link_in image edge).by == 0) (not ((link_in image edge).row == 0)) (eq-eqb (link_in image edge).by 0 none) (not_from_false ((link_in image edge).row == 0) (ne_eqb (link_in image edge).row 0 some)))
+      (and_from ((link_in image edge).by == 0) (not ((link_in image edge).row == 0)) (eq-eqb (link_in image edge).by 0 none)
+      (not_from_false ((link_in image edge).row == 0) (ne_eqb (link_in image edge).row 0 some)))
       (le-leb (link_in image edge).row (last_row_of l) within)
 
-  bits_from : (edge row : ℕ) → IsFineEdge image edge → ((link_in image edge).mark && (not (is_leaf l image row) || (row == 3))) ≡ false → has_wrong_bit l image edge row ≡ false
+  bits_from : (edge row : ℕ) → IsFineEdge image edge → ((link_in image edge).mark && (not (is_leaf l image row) || (row == 3))) ≡ false →
+      has_wrong_bit l image edge row ≡ false
   bits_from edge row fine flag =
       let top : ((edge == 4) && has_bit image edge) ≡ false = elim (cases_Bool (edge == 4)) [
         | inl y ↦ and_right (edge == 4) (has_bit image edge) (fine.top (eqb-true edge 4 y))
         | inr n ↦ and_left (edge == 4) (has_bit image edge) n
       ] in
       let froze : ((link_in image edge).frozen && not (link_in image (other_edge edge)).mark) ≡ false = elim (cases_Bool (link_in image edge).frozen) [
-        | inl y ↦ and_right (link_in image edge).frozen (not (link_in image (other_edge edge)).mark) (not_from_true (link_in image (other_edge edge)).mark (fine.frozen y))
+        | inl y ↦ and_right (link_in image edge).frozen (not (link_in image (other_edge edge)).mark)
+            (not_from_true (link_in image (other_edge edge)).mark (fine.frozen y))
         | inr n ↦ and_left (link_in image edge).frozen (not (link_in image (other_edge edge)).mark) n
       ] in
-      or_from (((edge == 4) && has_bit image edge) || ((link_in image edge).mark && (not (is_leaf l image row) || (row == 3)))) ((link_in image edge).frozen && not (link_in image (other_edge edge)).mark)
+      or_from (((edge == 4) && has_bit image edge) || ((link_in image edge).mark && (not (is_leaf l image row) || (row == 3))))
+      ((link_in image edge).frozen && not (link_in image (other_edge edge)).mark)
       (or_from ((edge == 4) && has_bit image edge) ((link_in image edge).mark && (not (is_leaf l image row) || (row == 3))) top flag) froze
 
   pub leaf_is_leaf : (edge lo hi row : ℕ) → IsLeafAt l image edge lo hi row → is_leaf l image row ≡ true
@@ -208,7 +220,8 @@ module _ (l : Layout) (kind : l.kind ≡ Tree_kind) (image : List ℕ) where
   pub inner_is_inner : (row : ℕ) → 1 ≤ (link_in image (left_word l row)).row → is_leaf l image row ≡ false
   inner_is_inner row leads = leads_somewhere image (left_word l row) leads
 
-  pub leaf_sound : (edge lo hi : ℕ) (reached : List ℕ) (row : ℕ) → IsFineEdge image edge → stands_in reached row ≡ false → IsLeafAt l image edge lo hi row → IsSoundEdge l image edge lo hi reached row
+  pub leaf_sound : (edge lo hi : ℕ) (reached : List ℕ) (row : ℕ) → IsFineEdge image edge → stands_in reached row ≡ false → IsLeafAt l image edge lo hi row →
+      IsSoundEdge l image edge lo hi reached row
   leaf_sound edge lo hi reached row fine apart h =
       let left = zero_nowhere image (left_word l row) h.no_left in
       let right = zero_nowhere image (right_word l row) h.no_right in
@@ -219,17 +232,23 @@ module _ (l : Layout) (kind : l.kind ≡ Tree_kind) (image : List ℕ) where
         left = even_ends (leads_nowhere image (left_word l row)) (leads_nowhere image (right_word l row)) (has_bit image (left_word l row)) left.1 right.0;
         right = even_ends (leads_nowhere image (right_word l row)) (leads_nowhere image (left_word l row)) (has_bit image (right_word l row)) right.1 left.0;
         placed = elim h.below [
-          | inl three ↦ and_left (is_leaf l image row && not (row == 3)) (nat_le (above_keys 0) (key_in l image row)) (and_right (is_leaf l image row) (not (row == 3)) (not_from_true (row == 3) (eq-eqb row 3 three)))
-          | inr below ↦ and_right (is_leaf l image row && not (row == 3)) (nat_le (above_keys 0) (key_in l image row)) (lt-leb (above_keys 0) (key_in l image row) below)
+          | inl three ↦ and_left (is_leaf l image row && not (row == 3)) (nat_le (above_keys 0) (key_in l image row))
+              (and_right (is_leaf l image row) (not (row == 3)) (not_from_true (row == 3) (eq-eqb row 3 three)))
+          | inr below ↦ and_right (is_leaf l image row && not (row == 3)) (nat_le (above_keys 0) (key_in l image row))
+              (lt-leb (above_keys 0) (key_in l image row) below)
         ];
-        ordered = rw left.0 (or_from (nat_le hi (key_in l image row)) (nat_lt (key_in l image row) lo) (lt-leb hi (key_in l image row) h.high) (le-ltb (key_in l image row) lo h.low));
+        ordered = rw left.0 (or_from (nat_le hi (key_in l image row)) (nat_lt (key_in l image row) lo) (lt-leb hi (key_in l image row) h.high)
+            (le-ltb (key_in l image row) lo h.low));
         bits = bits_from edge row fine (elim (cases_Bool (link_in image edge).mark) [
-          | inl y ↦ and_right (link_in image edge).mark (not (is_leaf l image row) || (row == 3)) (or_from (not (is_leaf l image row)) (row == 3) (not_from_true (is_leaf l image row) left.0) (ne_eqb row 3 (h.stays y)))
+          | inl y ↦ and_right (link_in image edge).mark (not (is_leaf l image row) || (row == 3))
+              (or_from (not (is_leaf l image row)) (row == 3) (not_from_true (is_leaf l image row) left.0) (ne_eqb row 3 (h.stays y)))
           | inr n ↦ and_left (link_in image edge).mark (not (is_leaf l image row) || (row == 3)) n
         ]);
       }
 
-  pub inner_sound : (edge lo hi : ℕ) (reached : List ℕ) (row : ℕ) → IsFineEdge image edge → stands_in reached row ≡ false → 1 ≤ (link_in image (left_word l row)).row → 1 ≤ (link_in image (right_word l row)).row → IsInnerAt l image edge lo hi row → IsSoundEdge l image edge lo hi reached row
+  pub inner_sound : (edge lo hi : ℕ) (reached : List ℕ) (row : ℕ) → IsFineEdge image edge → stands_in reached row ≡ false →
+      1 ≤ (link_in image (left_word l row)).row → 1 ≤ (link_in image (right_word l row)).row → IsInnerAt l image edge lo hi row →
+      IsSoundEdge l image edge lo hi reached row
   inner_sound edge lo hi reached row fine apart left right h =
       let on_left = leads_somewhere image (left_word l row) left in
       let on_right = leads_somewhere image (right_word l row) right in
@@ -237,10 +256,14 @@ module _ (l : Layout) (kind : l.kind ≡ Tree_kind) (image : List ℕ) where
         named = h.reached.named;
         leads = leads_from edge row h.reached;
         apart = apart;
-        left = and_left (leads_nowhere image (left_word l row)) (if leads_nowhere image (right_word l row) then has_bit image (left_word l row) else true) on_left;
-        right = and_left (leads_nowhere image (right_word l row)) (if leads_nowhere image (left_word l row) then has_bit image (right_word l row) else true) on_right;
-        placed = and_left (is_leaf l image row && not (row == 3)) (nat_le (above_keys 0) (key_in l image row)) (and_left (is_leaf l image row) (not (row == 3)) on_left);
-        ordered = rw on_left (or_from (nat_le hi (key_in l image row)) (nat_le (key_in l image row) lo) (lt-leb hi (key_in l image row) h.high) (lt-leb (key_in l image row) lo h.low));
+        left = and_left (leads_nowhere image (left_word l row)) (if leads_nowhere image (right_word l row) then has_bit image (left_word l row) else true)
+            on_left;
+        right = and_left (leads_nowhere image (right_word l row)) (if leads_nowhere image (left_word l row) then has_bit image (right_word l row) else true)
+            on_right;
+        placed = and_left (is_leaf l image row && not (row == 3)) (nat_le (above_keys 0) (key_in l image row))
+            (and_left (is_leaf l image row) (not (row == 3)) on_left);
+        ordered = rw on_left (or_from (nat_le hi (key_in l image row)) (nat_le (key_in l image row) lo) (lt-leb hi (key_in l image row) h.high)
+            (lt-leb (key_in l image row) lo h.low));
         bits = bits_from edge row fine (and_left (link_in image edge).mark (not (is_leaf l image row) || (row == 3)) h.unflagged);
       }
 

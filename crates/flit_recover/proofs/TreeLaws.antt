@@ -28,11 +28,13 @@ stands-append xs ys row = list_any-append (λ r. r == row) xs ys
 
 module _ (l : Layout) (accepted : Accepted l) (kind : l.kind ≡ Tree_kind) (image : List ℕ) where
   -- where the edge above a sound tree is frozen the other edge is flagged
-  root_frozen : (edge lo hi : ℕ) (reached : List ℕ) (t : Tree) → IsSoundTree l image edge lo hi reached t → (link_in image edge).frozen ≡ true → (link_in image (other_edge edge)).mark ≡ true
+  root_frozen : (edge lo hi : ℕ) (reached : List ℕ) (t : Tree) → IsSoundTree l image edge lo hi reached t → (link_in image edge).frozen ≡ true →
+      (link_in image (other_edge edge)).mark ≡ true
   root_frozen edge lo hi reached (Leaf r) h f = frozen_flagged l image edge lo hi reached r (reaches_parts l image edge lo hi reached r h.0) f
   root_frozen edge lo hi reached (Inner r a b) h f = frozen_flagged l image edge lo hi reached r (reaches_parts l image edge lo hi reached r h.0) f
 
-  root_bare : (edge lo hi : ℕ) (reached : List ℕ) (t : Tree) → IsSoundTree l image edge lo hi reached t → edge ≡ 4 → ((link_in image edge).mark ≡ false) × ((link_in image edge).frozen ≡ false)
+  root_bare : (edge lo hi : ℕ) (reached : List ℕ) (t : Tree) → IsSoundTree l image edge lo hi reached t → edge ≡ 4 →
+      ((link_in image edge).mark ≡ false) × ((link_in image edge).frozen ≡ false)
   root_bare edge lo hi reached (Leaf r) h e = top_bare l image edge lo hi reached r (reaches_parts l image edge lo hi reached r h.0) e
   root_bare edge lo hi reached (Inner r a b) h e = top_bare l image edge lo hi reached r (reaches_parts l image edge lo hi reached r h.0) e
 
@@ -41,14 +43,17 @@ module _ (l : Layout) (accepted : Accepted l) (kind : l.kind ≡ Tree_kind) (ima
   sound_tree edge lo hi reached (Leaf r) h = sound_leaf l image edge lo hi reached r (reaches_parts l image edge lo hi reached r h.0) h.1
   sound_tree edge lo hi reached (Inner r a b) h = (
     sound_inner l image edge lo hi reached r (reaches_parts l image edge lo hi reached r h.0) h.1
-        (λ f. subst (λ w. (link_in image w).mark ≡ true) (other_of_left l kind image accepted r) (root_frozen (left_word l r) lo (key_in l image r) (r ∷ reached) a h.2 f))
-        (λ f. subst (λ w. (link_in image w).mark ≡ true) (other_of_right l kind image accepted r) (root_frozen (right_word l r) (key_in l image r) hi (rows_in_tree a ++ r ∷ reached) b h.3 f)),
+        (λ f. subst (λ w. (link_in image w).mark ≡ true) (other_of_left l kind image accepted r)
+        (root_frozen (left_word l r) lo (key_in l image r) (r ∷ reached) a h.2 f))
+        (λ f. subst (λ w. (link_in image w).mark ≡ true) (other_of_right l kind image accepted r)
+        (root_frozen (right_word l r) (key_in l image r) hi (rows_in_tree a ++ r ∷ reached) b h.3 f)),
     sound_tree (left_word l r) lo (key_in l image r) (r ∷ reached) a h.2,
     sound_tree (right_word l r) (key_in l image r) hi (rows_in_tree a ++ r ∷ reached) b h.3,
   )
 
   -- and the other way round where none of its rows was reached before
-  tree_sound : (edge lo hi : ℕ) (reached : List ℕ) (t : Tree) → IsFineEdge image edge → AllByRecursion (λ q. stands_in reached q ≡ false) (rows_in_tree t) → AllByRecursion (λ q. q ≢ 2) (rows_in_tree t) → IsTree l image edge lo hi t → IsSoundTree l image edge lo hi reached t
+  tree_sound : (edge lo hi : ℕ) (reached : List ℕ) (t : Tree) → IsFineEdge image edge → AllByRecursion (λ q. stands_in reached q ≡ false) (rows_in_tree t) →
+      AllByRecursion (λ q. q ≢ 2) (rows_in_tree t) → IsTree l image edge lo hi t → IsSoundTree l image edge lo hi reached t
   tree_sound edge lo hi reached (Leaf r) fine apart other h = (
     reaches_from l image edge lo hi reached r (leaf_sound l kind image edge lo hi reached r fine apart.0 h),
     leaf_is_leaf l kind image edge lo hi r h,
@@ -71,8 +76,14 @@ module _ (l : Layout) (accepted : Accepted l) (kind : l.kind ≡ Tree_kind) (ima
       (λ q out between.
       stands-append lefts (r ∷ reached) q
       ∙ or_from (stands_in lefts q) (stands_in (r ∷ reached) q)
-      (none_stands q lefts (all_weaker (IsBetween l image lo (key_in l image r)) (λ z. z ≢ q) (λ z within e. omega (arith, ap (key_in l image) e, within.high, between.low)) lefts between_left))
-      (or_from (r == q) (stands_in reached q) (ne_eqb r q (λ e. omega (arith, ap (key_in l image) e, between.above (subst (λ z. 1 ≤ (link_in image (left_word l z)).row) e leads)))) out))
+      (none_stands q lefts (all_weaker (IsBetween l image lo (key_in l image r)) (λ z. z ≢ q)
+      (λ z within e. omega (arith, ap (key_in l image) e, within.high, between.low)) lefts between_left))
+      (or_from (r == q) (stands_in reached q) (ne_eqb r q (λ e. omega (
+        arith,
+        ap (key_in l image) e,
+        between.above
+            (subst (λ z. 1 ≤ (link_in image (left_word l z)).row) e leads),
+      ))) out))
       rights (all_behind (λ q. stands_in reached q ≡ false) lefts rights apart.1) between_right
       in
       let fine_left : IsFineEdge image (left_word l r) = record {
@@ -86,12 +97,17 @@ module _ (l : Layout) (accepted : Accepted l) (kind : l.kind ≡ Tree_kind) (ima
         reaches_from l image edge lo hi reached r (inner_sound l kind image edge lo hi reached r fine apart.0 leads leads_right h.0),
         inner_is_inner l kind image r leads,
         tree_sound (left_word l r) lo (key_in l image r) (r ∷ reached) a fine_left apart_left (all_front (λ q. q ≢ 2) lefts rights other.1) h.1,
-        tree_sound (right_word l r) (key_in l image r) hi (rows_in_tree a ++ r ∷ reached) b fine_right apart_right (all_behind (λ q. q ≢ 2) lefts rights other.1) h.2,
+        tree_sound (right_word l r) (key_in l image r) hi (rows_in_tree a ++ r ∷ reached) b fine_right apart_right
+            (all_behind (λ q. q ≢ 2) lefts rights other.1) h.2,
       )
 
   not_at_start : (q : ℕ) → (q ≡ 3) ⊎ (6 ≤ q) → stands_in reached_at_start q ≡ false
   not_at_start q h =
-      let apart : (1 ≢ q) × (2 ≢ q) × (4 ≢ q) × (5 ≢ q) = elim h [ inl e ↦ (omega arith, omega arith, omega arith, omega arith) | inr six ↦ (omega arith, omega arith, omega arith, omega arith) ] in
+      let apart : (1 ≢ q) × (2 ≢ q) × (4 ≢ q) × (5 ≢ q) = elim h [
+        | inl e ↦ (omega arith, omega arith, omega arith, omega arith)
+        | inr
+            six ↦ (omega arith, omega arith, omega arith, omega arith)
+      ] in
       none_stands q reached_at_start (apart.0, (apart.1, (apart.2, (apart.3, tt))))
 
   -- the walk finds nothing wrong below word 4 of a lawful image
@@ -108,7 +124,9 @@ module _ (l : Layout) (accepted : Accepted l) (kind : l.kind ≡ Tree_kind) (ima
       h.tree
 
   -- an image whose walk finds nothing wrong and reaches row 3 is lawful
-  pub sound_lawful : (t : Tree) → length image ≡ words_of l → ((w : ℕ) → w < words_of l → is_tagged (slice_index image w) ≡ false) → ((w : ℕ) → IsFixed l w → value_in image w ≡ initial_of l.kind w) → IsSoundTree l image 4 0 (above_keys 1) reached_at_start t → stands_in (rows_in_tree t) 3 ≡ true → IsLawfulTree l image t
+  pub sound_lawful : (t : Tree) → length image ≡ words_of l → ((w : ℕ) → w < words_of l → is_tagged (slice_index image w) ≡ false) →
+      ((w : ℕ) → IsFixed l w → value_in image w ≡ initial_of l.kind w) → IsSoundTree l image 4 0 (above_keys 1) reached_at_start t →
+      stands_in (rows_in_tree t) 3 ≡ true → IsLawfulTree l image t
   sound_lawful t whole untagged fixed sound last = record {
     whole = whole;
     untagged = untagged;
@@ -120,10 +138,12 @@ module _ (l : Layout) (accepted : Accepted l) (kind : l.kind ≡ Tree_kind) (ima
 
   -- ---- one tree or one damage
 
-  pub sound_unique : (edge lo hi : ℕ) (reached : List ℕ) (t u : Tree) → IsSoundTree l image edge lo hi reached t → IsSoundTree l image edge lo hi reached u → t ≡ u
+  pub sound_unique : (edge lo hi : ℕ) (reached : List ℕ) (t u : Tree) → IsSoundTree l image edge lo hi reached t → IsSoundTree l image edge lo hi reached u →
+      t ≡ u
   sound_unique edge lo hi reached t u h i = tree_unique l image edge lo hi lo hi t u (sound_tree edge lo hi reached t h) (sound_tree edge lo hi reached u i)
 
-  never_both : (edge lo hi : ℕ) (reached : List ℕ) (t : Tree) (way : Way) (d : Damage) → IsSoundTree l image edge lo hi reached t → IsDamagedTree l image edge lo hi reached way d → ⊥
+  never_both : (edge lo hi : ℕ) (reached : List ℕ) (t : Tree) (way : Way) (d : Damage) → IsSoundTree l image edge lo hi reached t →
+      IsDamagedTree l image edge lo hi reached way d → ⊥
   never_both edge lo hi reached (Leaf r) Here d h i = let sound = h.0.sound in cc
   never_both edge lo hi reached (Leaf r) (ToLeft s way) d h i =
       let e : s ≡ r = sym i.0.named ∙ h.0.named in both_ways (is_leaf l image r) (rw e at i.1) h.1
@@ -138,7 +158,8 @@ module _ (l : Layout) (accepted : Accepted l) (kind : l.kind ≡ Tree_kind) (ima
       let same : c ≡ a = sound_unique (left_word l r) lo (key_in l image r) (r ∷ reached) c a (rw e at i.2) h.2 in
       never_both (right_word l r) (key_in l image r) hi (rows_in_tree a ++ r ∷ reached) b way d h.3 (rw (e, same) at i.3)
 
-  damage_unique : (edge lo hi : ℕ) (reached : List ℕ) (way other : Way) (d e : Damage) → IsDamagedTree l image edge lo hi reached way d → IsDamagedTree l image edge lo hi reached other e → d ≡ e
+  damage_unique : (edge lo hi : ℕ) (reached : List ℕ) (way other : Way) (d e : Damage) → IsDamagedTree l image edge lo hi reached way d →
+      IsDamagedTree l image edge lo hi reached other e → d ≡ e
   damage_unique edge lo hi reached Here Here d e h i = let same = sym h ∙ i in cc
   damage_unique edge lo hi reached Here (ToLeft s way) d e h i = let sound = i.0.sound in cc
   damage_unique edge lo hi reached Here (ToRight s c way) d e h i = let sound = i.0.sound in cc

@@ -13,7 +13,7 @@ use Rattle.flit_model.specs.Images.{Grown}
 use Rattle.flit_model.proofs.Elements.{all-range}
 use Rattle.flit_model.proofs.Pairs.{tree_pairs_rise}
 use Rattle.flit_recover.specs.declared.found.Damage.{Damage}
-use Rattle.flit_recover.specs.declared.found.Recovered.{Recovered}
+use Rattle.flit_recover.specs.declared.recovery.Holding.{Holding}
 use Rattle.flit_recover.specs.ListWalks.{stands_in}
 use Rattle.flit_recover.specs.TreeWalks.{reached_at_start}
 use Rattle.flit_recover.specs.TreeFinds.{IsTreeReached}
@@ -40,14 +40,18 @@ module _ (l : Layout) (image : List ℕ) (kind : l.kind ≡ Tree_kind) (rows : L
       (subst (λ (ps : List (ℕ × ℕ)). IsRisingFrom 0 (map (λ p. p.0) ps)) (sym h.pairs_are) (tree_pairs_rise l image h.tree h.lawful))
 
   -- the rows that weren't reached are the free ones
-  tree_free : filter (λ row. not (stands_in rows row)) (range_with_len (first_row_of l.kind) l.rows) ≡ filter (λ row. not (stands_in (rows_in_tree h.tree) row)) (range_with_len (first_row_of l.kind) l.rows)
+  tree_free : filter (λ row. not (stands_in rows row)) (range_with_len (first_row_of l.kind) l.rows)
+      ≡ filter (λ row. not (stands_in (rows_in_tree h.tree) row)) (range_with_len (first_row_of l.kind) l.rows)
   tree_free =
       let first : first_row_of l.kind ≡ 6 = ap first_row_of kind in
       ap (λ (rs : List ℕ). filter (λ row. not (stands_in rs row)) (range_with_len (first_row_of l.kind) l.rows)) h.rows_are
-      ∙ filter-same (λ row. not (stands_in (reached_at_start ++ rows_in_tree h.tree) row)) (λ row. not (stands_in (rows_in_tree h.tree) row)) (range_with_len (first_row_of l.kind) l.rows)
-      (all-range (λ row. not (stands_in (reached_at_start ++ rows_in_tree h.tree) row) ≡ not (stands_in (rows_in_tree h.tree) row)) (first_row_of l.kind) l.rows (λ row from below. start_below (rows_in_tree h.tree) row (omega (arith, first, from))))
+      ∙ filter-same (λ row. not (stands_in (reached_at_start ++ rows_in_tree h.tree) row)) (λ row. not (stands_in (rows_in_tree h.tree) row))
+      (range_with_len (first_row_of l.kind) l.rows)
+      (all-range (λ row. not (stands_in (reached_at_start ++ rows_in_tree h.tree) row) ≡ not (stands_in (rows_in_tree h.tree) row)) (first_row_of l.kind) l.rows
+      (λ row from below. start_below (rows_in_tree h.tree) row (omega (arith, first, from))))
 
-  tree_recovery : (keys values free : List ℕ) → keys ≡ map (λ p. p.0) pairs → values ≡ map (λ p. p.1) pairs → free ≡ filter (λ row. not (stands_in rows row)) (range_with_len (first_row_of l.kind) l.rows) → IsRecovery l image keys values free
+  tree_recovery : (keys values free : List ℕ) → keys ≡ map (λ p. p.0) pairs → values ≡ map (λ p. p.1) pairs →
+      free ≡ filter (λ row. not (stands_in rows row)) (range_with_len (first_row_of l.kind) l.rows) → IsRecovery l image keys values free
   tree_recovery keys values free keys_are values_are free_are = record {
     map = tree_map l image h.tree;
     recovers = record {
@@ -60,6 +64,9 @@ module _ (l : Layout) (image : List ℕ) (kind : l.kind ≡ Tree_kind) (rows : L
     values_are = values_are ∙ sym (ap (map (λ e. e.1)) tree_entries);
   }
 
-  pub if_tree_recovery : (r : Result Recovered Damage) → IfOk r (λ x. x.keys.items ≡ map (λ p. p.0) pairs) → IfOk r (λ x. x.values.items ≡ map (λ p. p.1) pairs) → IfOk r (λ x. x.free.items ≡ filter (λ row. not (stands_in rows row)) (range_with_len (first_row_of l.kind) l.rows)) → IfOk r (λ x. IsRecovery l image x.keys.items x.values.items x.free.items)
+  pub if_tree_recovery : (r : Result Holding Damage) → IfOk r (λ x. x.keys.items ≡ map (λ p. p.0) pairs) →
+      IfOk r (λ x. x.values.items ≡ map (λ p. p.1) pairs) → IfOk r (λ x. x.free.items
+      ≡ filter (λ row. not (stands_in rows row)) (range_with_len (first_row_of l.kind) l.rows)) →
+      IfOk r (λ x. IsRecovery l image x.keys.items x.values.items x.free.items)
   if_tree_recovery (Ok x) keys_are values_are free_are = tree_recovery x.keys.items x.values.items x.free.items keys_are values_are free_are
   if_tree_recovery (Err d) keys_are values_are free_are = tt

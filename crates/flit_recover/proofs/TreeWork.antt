@@ -44,10 +44,12 @@ module _ (l : Layout) (image : List ℕ) where
         same_reaches edge lo hi xs ys r same h.0,
         h.1,
         same_sound (left_word l r) lo (key_in l image r) (r ∷ xs) (r ∷ ys) a more h.2,
-        same_sound (right_word l r) (key_in l image r) hi (rows_in_tree a ++ r ∷ xs) (rows_in_tree a ++ r ∷ ys) b (same_front (rows_in_tree a) (r ∷ xs) (r ∷ ys) more) h.3,
+        same_sound (right_word l r) (key_in l image r) hi (rows_in_tree a ++ r ∷ xs) (rows_in_tree a ++ r ∷ ys) b
+            (same_front (rows_in_tree a) (r ∷ xs) (r ∷ ys) more) h.3,
       )
 
-  same_damaged : (edge lo hi : ℕ) (xs ys : List ℕ) (way : Way) (d : Damage) → AreSame xs ys → IsDamagedTree l image edge lo hi xs way d → IsDamagedTree l image edge lo hi ys way d
+  same_damaged : (edge lo hi : ℕ) (xs ys : List ℕ) (way : Way) (d : Damage) → AreSame xs ys → IsDamagedTree l image edge lo hi xs way d →
+      IsDamagedTree l image edge lo hi ys way d
   same_damaged edge lo hi xs ys Here d same h = rw (← same (link_in image edge).row) h
   same_damaged edge lo hi xs ys (ToLeft r way) d same h = (
     same_reaches edge lo hi xs ys r same h.0,
@@ -59,7 +61,8 @@ module _ (l : Layout) (image : List ℕ) where
         same_reaches edge lo hi xs ys r same h.0,
         h.1,
         same_sound (left_word l r) lo (key_in l image r) (r ∷ xs) (r ∷ ys) a more h.2,
-        same_damaged (right_word l r) (key_in l image r) hi (rows_in_tree a ++ r ∷ xs) (rows_in_tree a ++ r ∷ ys) way d (same_front (rows_in_tree a) (r ∷ xs) (r ∷ ys) more) h.3,
+        same_damaged (right_word l r) (key_in l image r) hi (rows_in_tree a ++ r ∷ xs) (rows_in_tree a ++ r ∷ ys) way d
+            (same_front (rows_in_tree a) (r ∷ xs) (r ∷ ys) more) h.3,
       )
 
   -- ---- below each edge of a stack
@@ -107,18 +110,21 @@ module _ (l : Layout) (image : List ℕ) where
 
   module _ (p : Pending) (reached : List ℕ) (row : ℕ) (h : Reaches l image p.edge p.low p.high reached row) where
     module _ (inner : is_leaf l image row ≡ false) (ps : List Pending) where
-      sound_inner : (a b : Tree) (ts : List Tree) → AreSound (reached ++ row ∷ []) (left_below l image p row ∷ right_below l image p row ∷ ps) (a ∷ b ∷ ts) → AreSound reached (p ∷ ps) (Inner row a b ∷ ts)
+      sound_inner : (a b : Tree) (ts : List Tree) → AreSound (reached ++ row ∷ []) (left_below l image p row ∷ right_below l image p row ∷ ps) (a ∷ b ∷ ts) →
+          AreSound reached (p ∷ ps) (Inner row a b ∷ ts)
       sound_inner a b ts w = (
         (
           h,
           inner,
           same_sound (left_word l row) p.low (key_in l image row) (reached ++ row ∷ []) (row ∷ reached) a (same_left row reached) w.0,
-          same_sound (right_word l row) (key_in l image row) p.high ((reached ++ row ∷ []) ++ rows_in_tree a) (rows_in_tree a ++ row ∷ reached) b (same_right row reached (rows_in_tree a)) w.1.0,
+          same_sound (right_word l row) (key_in l image row) p.high ((reached ++ row ∷ []) ++ rows_in_tree a) (rows_in_tree a ++ row ∷ reached) b
+              (same_right row reached (rows_in_tree a)) w.1.0,
         ),
         subst (λ rows. AreSound rows ps ts) (joined_rows row reached (rows_in_tree a) (rows_in_tree b)) w.1.1,
       )
 
-      damaged_inner : (d : Damage) → AreDamaged (reached ++ row ∷ []) (left_below l image p row ∷ right_below l image p row ∷ ps) d → AreDamaged reached (p ∷ ps) d
+      damaged_inner : (d : Damage) → AreDamaged (reached ++ row ∷ []) (left_below l image p row ∷ right_below l image p row ∷ ps) d →
+          AreDamaged reached (p ∷ ps) d
       damaged_inner d (inl w) = inl (
         ToLeft row w.0,
         (
@@ -133,7 +139,8 @@ module _ (l : Layout) (image : List ℕ) where
           h,
           inner,
           same_sound (left_word l row) p.low (key_in l image row) (reached ++ row ∷ []) (row ∷ reached) a (same_left row reached) left,
-          same_damaged (right_word l row) (key_in l image row) p.high ((reached ++ row ∷ []) ++ rows_in_tree a) (rows_in_tree a ++ row ∷ reached) w.0 d (same_right row reached (rows_in_tree a)) w.1,
+          same_damaged (right_word l row) (key_in l image row) p.high ((reached ++ row ∷ []) ++ rows_in_tree a) (rows_in_tree a ++ row ∷ reached) w.0 d
+              (same_right row reached (rows_in_tree a)) w.1,
         ),
       )
       damaged_inner d (inr (a, left, inr (b, right, rest))) = inr (
@@ -142,31 +149,38 @@ module _ (l : Layout) (image : List ℕ) where
           h,
           inner,
           same_sound (left_word l row) p.low (key_in l image row) (reached ++ row ∷ []) (row ∷ reached) a (same_left row reached) left,
-          same_sound (right_word l row) (key_in l image row) p.high ((reached ++ row ∷ []) ++ rows_in_tree a) (rows_in_tree a ++ row ∷ reached) b (same_right row reached (rows_in_tree a)) right,
+          same_sound (right_word l row) (key_in l image row) p.high ((reached ++ row ∷ []) ++ rows_in_tree a) (rows_in_tree a ++ row ∷ reached) b
+              (same_right row reached (rows_in_tree a)) right,
         ),
         subst (λ rows. AreDamaged rows ps d) (joined_rows row reached (rows_in_tree a) (rows_in_tree b)) rest,
       )
 
     -- the state after a leaf
-    pub underway-leaf : (pairs : List (ℕ × ℕ)) (ps : List Pending) → is_leaf l image row ≡ true → IsUnderway reached pairs (p ∷ ps) → IsUnderway (reached ++ row ∷ []) (pairs ++ tree_pairs l image p.edge (Leaf row)) ps
+    pub underway-leaf : (pairs : List (ℕ × ℕ)) (ps : List Pending) → is_leaf l image row ≡ true → IsUnderway reached pairs (p ∷ ps) →
+        IsUnderway (reached ++ row ∷ []) (pairs ++ tree_pairs l image p.edge (Leaf row)) ps
     underway-leaf pairs ps leaf u = record {
       edges = u.edges.1;
       finish = λ ts w.
-          subst (λ rows. FindsTree l image rows ((pairs ++ tree_pairs l image p.edge (Leaf row)) ++ pairs_of_all ps ts)) (sym (append_assoc reached (row ∷ []) (rows_of_all ts)))
-          (subst (λ found. FindsTree l image (reached ++ (row ∷ rows_of_all ts)) found) (sym (append_assoc pairs (tree_pairs l image p.edge (Leaf row)) (pairs_of_all ps ts)))
+          subst (λ rows. FindsTree l image rows ((pairs ++ tree_pairs l image p.edge (Leaf row)) ++ pairs_of_all ps ts))
+          (sym (append_assoc reached (row ∷ []) (rows_of_all ts)))
+          (subst (λ found. FindsTree l image (reached ++ (row ∷ rows_of_all ts)) found)
+          (sym (append_assoc pairs (tree_pairs l image p.edge (Leaf row)) (pairs_of_all ps ts)))
           (u.finish (Leaf row ∷ ts) ((h, leaf), w)));
       damage = λ d w. u.damage d (inr (Leaf row, (h, leaf), w));
     }
 
     -- the state after an inner row, whose edges are walked next
-    pub underway-inner : (pairs : List (ℕ × ℕ)) (ps : List Pending) → is_leaf l image row ≡ false → IsEdgeWord l (left_word l row) → IsEdgeWord l (right_word l row) → IsUnderway reached pairs (p ∷ ps) → IsUnderway (reached ++ row ∷ []) pairs (left_below l image p row ∷ right_below l image p row ∷ ps)
+    pub underway-inner : (pairs : List (ℕ × ℕ)) (ps : List Pending) → is_leaf l image row ≡ false → IsEdgeWord l (left_word l row) →
+        IsEdgeWord l (right_word l row) → IsUnderway reached pairs (p ∷ ps) →
+        IsUnderway (reached ++ row ∷ []) pairs (left_below l image p row ∷ right_below l image p row ∷ ps)
     underway-inner pairs ps inner left right u = record {
       edges = (left, (right, u.edges.1));
       finish = λ ts w. after ts w;
       damage = λ d w. u.damage d (damaged_inner inner ps d w);
     }
       where
-        after : (ts : List Tree) → AreSound (reached ++ row ∷ []) (left_below l image p row ∷ right_below l image p row ∷ ps) ts → FindsTree l image ((reached ++ row ∷ []) ++ rows_of_all ts) (pairs ++ pairs_of_all (left_below l image p row ∷ right_below l image p row ∷ ps) ts)
+        after : (ts : List Tree) → AreSound (reached ++ row ∷ []) (left_below l image p row ∷ right_below l image p row ∷ ps) ts →
+            FindsTree l image ((reached ++ row ∷ []) ++ rows_of_all ts) (pairs ++ pairs_of_all (left_below l image p row ∷ right_below l image p row ∷ ps) ts)
         after [] w = absurd w
         after (a ∷ []) w = absurd w.1
         after (a ∷ b ∷ ts) w =
@@ -174,18 +188,23 @@ module _ (l : Layout) (image : List ℕ) where
             let rights = rows_in_tree b in
             let found_left = tree_pairs l image (left_word l row) a in
             let found_right = tree_pairs l image (right_word l row) b in
-            let rows : reached ++ ((row ∷ rows_in_tree a ++ rows_in_tree b) ++ rows_of_all ts) ≡ (reached ++ row ∷ []) ++ (rows_in_tree a ++ (rows_in_tree b ++ rows_of_all ts)) =
-            ap (λ rest. reached ++ (row ∷ rest)) (append_assoc lefts rights (rows_of_all ts)) ∙ sym (append_assoc reached (row ∷ []) (lefts ++ (rights ++ rows_of_all ts)))
+            let rows : reached ++ ((row ∷ rows_in_tree a ++ rows_in_tree b) ++ rows_of_all ts) ≡ (reached ++ row ∷ [])
+            ++ (rows_in_tree a ++ (rows_in_tree b ++ rows_of_all ts)) =
+            ap (λ rest. reached ++ (row ∷ rest)) (append_assoc lefts rights (rows_of_all ts))
+            ∙ sym (append_assoc reached (row ∷ []) (lefts ++ (rights ++ rows_of_all ts)))
             in
-            let found : pairs ++ ((tree_pairs l image (left_word l row) a ++ tree_pairs l image (right_word l row) b) ++ pairs_of_all ps ts) ≡ pairs ++ (tree_pairs l image (left_word l row) a ++ (tree_pairs l image (right_word l row) b ++ pairs_of_all ps ts)) =
+            let found : pairs ++ ((tree_pairs l image (left_word l row) a ++ tree_pairs l image (right_word l row) b) ++ pairs_of_all ps ts) ≡ pairs
+            ++ (tree_pairs l image (left_word l row) a ++ (tree_pairs l image (right_word l row) b ++ pairs_of_all ps ts)) =
             ap (λ rest. pairs ++ rest) (append_assoc found_left found_right (pairs_of_all ps ts))
             in
-            subst (λ rs. FindsTree l image rs (pairs ++ (tree_pairs l image (left_word l row) a ++ (tree_pairs l image (right_word l row) b ++ pairs_of_all ps ts)))) rows
+            subst (λ rs. FindsTree l image rs (pairs ++ (tree_pairs l image (left_word l row) a
+            ++ (tree_pairs l image (right_word l row) b ++ pairs_of_all ps ts)))) rows
             (subst (λ fs. FindsTree l image (reached ++ ((row ∷ rows_in_tree a ++ rows_in_tree b) ++ rows_of_all ts)) fs) found
             (u.finish (Inner row a b ∷ ts) (sound_inner inner ps a b ts w)))
 
   -- an edge with damage is the first damage
-  pub underway_damaged : (p : Pending) (ps : List Pending) (reached : List ℕ) (pairs : List (ℕ × ℕ)) (d : Damage) → edge_damage l image p.edge p.low p.high reached ≡ Some d → IsUnderway reached pairs (p ∷ ps) → FindsDamage l image d
+  pub underway_damaged : (p : Pending) (ps : List Pending) (reached : List ℕ) (pairs : List (ℕ × ℕ)) (d : Damage) →
+      edge_damage l image p.edge p.low p.high reached ≡ Some d → IsUnderway reached pairs (p ∷ ps) → FindsDamage l image d
   underway_damaged p ps reached pairs d e u = u.damage d (inl (Here, e))
 
   -- the walk begins at word 4, and ends where no edge is left
@@ -196,7 +215,8 @@ module _ (l : Layout) (image : List ℕ) where
     damage = λ d w. elim w [ inl found ↦ found | inr (t, s, none) ↦ absurd none ];
   }
     where
-      first : (ts : List Tree) → AreSound reached_at_start (record { edge = 4; low = 0; high = above_keys 1 } ∷ []) ts → FindsTree l image (reached_at_start ++ rows_of_all ts) (pairs_of_all (record { edge = 4; low = 0; high = above_keys 1 } ∷ []) ts)
+      first : (ts : List Tree) → AreSound reached_at_start (record { edge = 4; low = 0; high = above_keys 1 } ∷ []) ts →
+          FindsTree l image (reached_at_start ++ rows_of_all ts) (pairs_of_all (record { edge = 4; low = 0; high = above_keys 1 } ∷ []) ts)
       first [] w = absurd w
       first (t ∷ []) w = record {
         tree = t;

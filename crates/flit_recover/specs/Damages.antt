@@ -1,13 +1,10 @@
--- The first damage of an image, and what recovery answers for a lawful one.
-use Rattle.std.specs.Prelude.{◌≡◌, ◌≢◌, ◌⊎◌, ℕ, ◌<◌, List, true, false}
-use Rattle.std.specs.FinMap as map_of_pairs
+-- The first damage of an image.
+use Rattle.std.specs.Prelude.{◌≡◌, ◌≢◌, ◌⊎◌, ℕ, ◌<◌, List, slice_index, true, false}
 use Rattle.flit_words.specs.declared.layouts.Layout.{Layout}
 use Rattle.flit_words.specs.declared.layouts.Kind.TheVariants.{Tree as Tree_kind}
 use Rattle.flit_words.specs.Layouts.{words_of}
 use Rattle.flit_words.specs.Words.{is_tagged}
-use Rattle.std.specs.Prelude.{slice_index}
-use Rattle.flit_model.specs.Maps.{Map}
-use Rattle.flit_model.specs.Images.{Recovers}
+pub use Rattle.flit_model.specs.Recovery.{IsRecovery}
 use Rattle.flit_recover.specs.declared.found.Damage.{Damage}
 use Rattle.flit_recover.specs.declared.found.Damage.TheVariants.{TagSet}
 use Rattle.flit_recover.specs.ListWalks.{IsChainDamage}
@@ -31,10 +28,3 @@ abbrev pub IsFirstDamage : Layout → List ℕ → Damage → Type 0
 IsFirstDamage l image d =
     IsTagDamage l image d
     ⊎ (((w : ℕ) → w < words_of l → is_tagged (slice_index image w) ≡ false) × IsWalkDamage l image d)
-
--- the keys, values and free rows are those of a lawful image
-pub record IsRecovery (l : Layout) (image : List ℕ) (keys values free : List ℕ) : Type 0 where
-  pub map : Map
-  pub recovers : Recovers l image map free
-  pub keys_are : keys ≡ map_of_pairs.keys map
-  pub values_are : values ≡ map_of_pairs.values map

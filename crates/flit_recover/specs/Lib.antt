@@ -4,3 +4,4 @@ pub mod TreeFinds
 pub mod Damages
 pub mod Marks
 pub mod Copies
+pub mod AboutDamages

@@ -1,17 +1,19 @@
 -- The walk over the chains of a list or hash table, and the first damage on it. The heads are walked in rising order,
 -- and on each chain the checks are made at each link word in the order that stands here.
 use Rattle.std.specs.Prelude.{◌≡◌, ◌≢◌, ℕ, suc, ◌==◌, ◌<◌, ◌&&◌, ◌||◌, not, nat_lt, nat_le, Bool, List, [], ◌∷◌, flat_map, Option, Some, None, if◌then◌else◌}
-use Rattle.std.specs.List.{list_any, range_with_len}
+use Rattle.std.specs.List.{range_with_len}
 use Rattle.flit_words.specs.declared.links.Link.{Link}
 use Rattle.flit_words.specs.declared.layouts.Layout.{Layout}
 use Rattle.flit_words.specs.Layouts.{last_row_of, head_of_key}
+use Rattle.flit_words.specs.declared.limits.TheConstants.{MOST_WORKERS, GREATEST_KEY}
 use Rattle.flit_model.specs.Lists.{link_in, key_in, next_word}
+pub use Rattle.flit_model.specs.Lists.{stands_in}
 use Rattle.flit_recover.specs.declared.found.Damage.{Damage}
 use Rattle.flit_recover.specs.declared.found.Damage.TheVariants.{RowOutOfRange, KeyOrder, KeyPlace, Shared}
 
 -- a link in a list that may name its remover as it does
 abbrev pub names_well : Layout → Link → Bool
-names_well l k = (k.by == 0) || (nat_le k.by 64 && l.values && k.mark)
+names_well l k = (k.by == 0) || (nat_le k.by MOST_WORKERS && l.values && k.mark)
 
 -- a link word of a list that leads astray; a head is never marked
 abbrev pub leads_astray : Layout → List ℕ → ℕ → Bool
@@ -21,13 +23,9 @@ leads_astray l image word =
     || (link_in image word).frozen
     || (nat_lt word l.buckets && (link_in image word).mark)
 
--- the row was reached before
-abbrev pub stands_in : List ℕ → ℕ → Bool
-stands_in rows row = list_any (λ r. r == row) rows
-
 -- the key has no place on the chain of this head
 abbrev pub is_misplaced : Layout → ℕ → ℕ → Bool
-is_misplaced l head key = nat_lt 4294967292 key || not (head_of_key l key == head)
+is_misplaced l head key = nat_lt GREATEST_KEY key || not (head_of_key l key == head)
 
 -- what is wrong at a link word of a head's chain, where these rows were reached and the next key is to be at least low
 abbrev pub damage_at : Layout → List ℕ → ℕ → List ℕ → ℕ → ℕ → Option Damage

@@ -65,8 +65,10 @@ abbrev pub edge_damage : Layout → List ℕ → ℕ → ℕ → ℕ → List �
 edge_damage l image edge lo hi reached =
     if not (leads_to_row l image edge) then Some (RowOutOfRange edge)
     else (if stands_in reached (link_in image edge).row then Some (Shared (link_in image edge).row)
-    else (if is_odd_link image (left_word l (link_in image edge).row) (right_word l (link_in image edge).row) then Some (RowOutOfRange (left_word l (link_in image edge).row))
-    else (if is_odd_link image (right_word l (link_in image edge).row) (left_word l (link_in image edge).row) then Some (RowOutOfRange (right_word l (link_in image edge).row))
+    else (if is_odd_link image (left_word l (link_in image edge).row) (right_word l (link_in image edge).row) then
+    Some (RowOutOfRange (left_word l (link_in image edge).row))
+    else (if is_odd_link image (right_word l (link_in image edge).row) (left_word l (link_in image edge).row) then
+    Some (RowOutOfRange (right_word l (link_in image edge).row))
     else (if is_above_all l image (link_in image edge).row then Some (KeyPlace (link_in image edge).row)
     else (if is_out_of_range l image lo hi (link_in image edge).row then Some (KeyOrder (link_in image edge).row)
     else (if has_wrong_bit l image edge (link_in image edge).row then Some (BadEdge edge)

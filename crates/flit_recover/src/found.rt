@@ -1,17 +1,3 @@
-use flit_image::Image;
-
-/// What a lawful image holds.
-#[derive(Debug, Drop)]
-pub struct Recovered {
-    /// The keys of the map, in rising order.
-    pub keys: Vec<u32>,
-    /// The value of each key, in the order of the keys; 0 for an image without values.
-    pub values: Vec<u32>,
-    /// The rows that a call may be given and that no link reaches, in rising order.
-    pub free: Vec<u32>,
-    pub image: Image,
-}
-
 /// What is wrong with an image, where it comes first on the walk.
 #[derive(Clone, Copy, Debug, PartialEq, Eq)]
 pub enum Damage {

@@ -11,6 +11,7 @@ mod recovery;
 mod tests;
 mod tree_walk;
 
-pub use found::{Damage, Recovered};
+pub use flit_model::Recovered;
+pub use found::Damage;
 pub use laws::{one_damage_of_lists, one_damage_of_trees};
-pub use recovery::{fresh, recover, recover_view};
+pub use recovery::{fresh, recover, recover_owned, recover_view};

@@ -7,7 +7,7 @@ ghost use Rattle.flit_recover.specs.Marks.{AreMarks};
 
 use crate::found::Damage;
 use crate::marks::Reached;
-use flit_words::{Kind, Layout, Link, Word};
+use flit_words::{GREATEST_KEY, Kind, Layout, Link, MOST_WORKERS, Word};
 use std::alloc::Global;
 
 pub(crate) fn value_at(words: &[u64], word: u32) -> u32
@@ -27,7 +27,7 @@ pub(crate) fn link_at(words: &[u64], word: u32) -> Link
 fn names_remover_well(layout: &Layout, link: Link) -> bool
     ensures { result ≡ names_well layout.now link }
 {
-    link.by == 0 || link.by <= 64 && layout.values && link.mark
+    link.by == 0 || link.by <= MOST_WORKERS && layout.values && link.mark
 }
 
 fn is_astray(layout: &Layout, words: &[u64], word: u32) -> bool
@@ -47,7 +47,7 @@ fn is_out_of_place(layout: &Layout, head: u32, key: u32) -> bool
     requires chained { layout.now.kind ≢ Kind.Tree }
     ensures { result ≡ is_misplaced layout.now head key }
 {
-    4294967292 < key || layout.head_of(key) != head
+    GREATEST_KEY < key || layout.head_of(key) != head
 }
 
 /// The row that a link word of a head's chain leads to, 0 where it ends the chain, where the next
@@ -64,10 +64,13 @@ fn row_behind(
     requires chained { layout.now.kind ≢ Kind.Tree }
     requires whole { length words.now ≡ words_of layout.now }
     requires within { word < words_of layout.now }
-    requires marks { AreMarks (last_row_of layout.now) reached.now.marks.items reached.now.rows.items }
-    ensures sound { OnOk result (damage_at layout.now words.now head reached.now.rows.items low word ≡ None) }
+    requires marks { AreMarks (last_row_of layout.now) reached.now.marks.items
+        reached.now.rows.items }
+    ensures sound { OnOk result (damage_at layout.now words.now head reached.now.rows.items low word
+        ≡ None) }
     ensures row { IfOk result (λ row. row ≡ (link_in words.now word).row) }
-    ensures err { IfErr result (λ d. damage_at layout.now words.now head reached.now.rows.items low word ≡ Some d) }
+    ensures err { IfErr result (λ d. damage_at layout.now words.now head reached.now.rows.items low
+        word ≡ Some d) }
 {
     if is_astray(layout, words, word) {
         return Err(Damage::RowOutOfRange { word });
@@ -100,10 +103,16 @@ fn walk_chain(
     requires chained { layout.now.kind ≢ Kind.Tree }
     requires whole { length words.now ≡ words_of layout.now }
     requires head { head < layout.now.buckets }
-    requires marks { AreMarks (last_row_of layout.now) reached.old.marks.items reached.old.rows.items }
-    ensures rows { OnOk result ((rows : List ℕ) × (reached.new.rows.items ≡ reached.old.rows.items ++ rows) × IsSoundFrom layout.now words.now head reached.old.rows.items 0 head rows) }
-    ensures marks { OnOk result (AreMarks (last_row_of layout.now) reached.new.marks.items reached.new.rows.items) }
-    ensures damage { IfErr result (λ d. d ≢ Damage.NoMemory → (rows : List ℕ) × IsDamagedFrom layout.now words.now head reached.old.rows.items 0 head rows d) }
+    requires marks { AreMarks (last_row_of layout.now) reached.old.marks.items
+        reached.old.rows.items }
+    ensures rows { OnOk result ((rows : List ℕ)
+        × (reached.new.rows.items ≡ reached.old.rows.items ++ rows)
+        × IsSoundFrom layout.now words.now head reached.old.rows.items 0 head rows) }
+    ensures marks { OnOk result (AreMarks (last_row_of layout.now) reached.new.marks.items
+        reached.new.rows.items) }
+    ensures damage { IfErr result (λ d. d ≢ Damage.NoMemory →
+        (rows : List ℕ) × IsDamagedFrom layout.now words.now head reached.old.rows.items 0 head rows
+        d) }
 {
     let mut word = head;
     let mut low = 0;
@@ -125,10 +134,15 @@ pub(crate) fn walk_lists(alloc: Global, layout: &Layout, words: &[u64]) -> Resul
     requires accepted { Accepted layout.now }
     requires chained { layout.now.kind ≢ Kind.Tree }
     requires whole { length words.now ≡ words_of layout.now }
-    requires untagged { (w : ℕ) → w < words_of layout.now → is_tagged (slice_index words.now w) ≡ false }
-    ensures lawful { IfOk result (λ r. (chain : ℕ → List ℕ) × IsLawfulList layout.now words.now chain × (r.rows.items ≡ rows_on_chains layout.now chain)) }
-    ensures marks { IfOk result (λ r. AreMarks (last_row_of layout.now) r.marks.items r.rows.items) }
-    ensures damage { IfErr result (λ d. d ≢ Damage.NoMemory → IsChainDamage layout.now words.now d) }
+    requires untagged { (w : ℕ) → w < words_of layout.now →
+        is_tagged (slice_index words.now w) ≡ false }
+    ensures lawful { IfOk result (λ r. (chain : ℕ → List ℕ)
+        × IsLawfulList layout.now words.now chain
+        × (r.rows.items ≡ rows_on_chains layout.now chain)) }
+    ensures marks { IfOk result (λ r. AreMarks (last_row_of layout.now) r.marks.items
+        r.rows.items) }
+    ensures damage { IfErr result (λ d. d ≢ Damage.NoMemory →
+        IsChainDamage layout.now words.now d) }
 {
     let mut reached = Reached::new(alloc, layout)?;
     for head in 0..layout.buckets {
@@ -181,7 +195,8 @@ pub(crate) fn pairs_of_rows(
 ) -> Result<Vec<(u32, u32)>, Damage>
     requires accepted { Accepted layout.now }
     requires whole { length words.now ≡ words_of layout.now }
-    requires within { EachIndex rows.now (λ k. (1 ≤ slice_index rows.now k) × (slice_index rows.now k ≤ last_row_of layout.now)) }
+    requires within { EachIndex rows.now (λ k. (1 ≤ slice_index rows.now k)
+        × (slice_index rows.now k ≤ last_row_of layout.now)) }
     ensures pairs { IfOk result (λ p. p.items ≡ list_pairs layout.now words.now rows.now) }
     ensures err { IfErr result (λ d. d ≡ Damage.NoMemory) }
 {

@@ -36,7 +36,8 @@ impl Reached {
     pub(crate) fn new(alloc: Global, layout: &Layout) -> Result<Reached, Damage>
         requires { Accepted layout.now }
         ensures rows { IfOk result (λ r. r.rows.items ≡ []) }
-        ensures marks { IfOk result (λ r. AreMarks (last_row_of layout.now) r.marks.items r.rows.items) }
+        ensures marks { IfOk result (λ r. AreMarks (last_row_of layout.now) r.marks.items
+            r.rows.items) }
         ensures err { IfErr result (λ d. d ≡ Damage.NoMemory) }
     {
         let marks = vec![in alloc; false; layout.last_row() as usize + 1]?;
@@ -48,9 +49,11 @@ impl Reached {
 
     pub(crate) fn push(&mut self, layout: &Layout, row: u32) -> Result<(), Damage>
         requires within { row ≤ last_row_of layout.now }
-        requires marks { AreMarks (last_row_of layout.now) self.old.marks.items self.old.rows.items }
+        requires marks { AreMarks (last_row_of layout.now) self.old.marks.items
+            self.old.rows.items }
         ensures rows { OnOk result (self.new.rows.items ≡ self.old.rows.items ++ row ∷ []) }
-        ensures marks { OnOk result (AreMarks (last_row_of layout.now) self.new.marks.items self.new.rows.items) }
+        ensures marks { OnOk result (AreMarks (last_row_of layout.now) self.new.marks.items
+            self.new.rows.items) }
         ensures err { IfErr result (λ d. d ≡ Damage.NoMemory) }
     {
         self.rows.push(row)?;
@@ -61,8 +64,11 @@ impl Reached {
     /// The rows that a call may be given and that weren't reached, in rising order.
     pub(crate) fn free_rows(&self, alloc: Global, layout: &Layout) -> Result<Vec<u32>, Damage>
         requires accepted { Accepted layout.now }
-        requires marks { AreMarks (last_row_of layout.now) self.now.marks.items self.now.rows.items }
-        ensures rows { IfOk result (λ f. f.items ≡ filter (λ r. not (stands_in self.now.rows.items r)) (range_with_len (first_row_of layout.now.kind) layout.now.rows)) }
+        requires marks { AreMarks (last_row_of layout.now) self.now.marks.items
+            self.now.rows.items }
+        ensures rows { IfOk result (λ f. f.items
+            ≡ filter (λ r. not (stands_in self.now.rows.items r))
+            (range_with_len (first_row_of layout.now.kind) layout.now.rows)) }
         ensures err { IfErr result (λ d. d ≡ Damage.NoMemory) }
     {
         let mut free = Vec::new(alloc);

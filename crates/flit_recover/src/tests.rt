@@ -25,7 +25,7 @@ fn holds(rt: &impl Abort, found: &Recovered, keys: &[u32], values: &[u32], free:
     assert_eq!(rt; found.free.as_slice(), free);
 }
 
-/// Recovers the image from its words, and from its text.
+/// Recovers the image from its words, kept or given away, and from its text.
 fn recovers(
     rt: &impl Abort,
     alloc: Global,
@@ -41,6 +41,9 @@ fn recovers(
     let seen = recover_view(alloc, &view).ok().ok_or("lawful")?;
     holds(rt, &seen, keys, values, free);
     assert_eq!(rt; seen.image.words.as_slice(), image.words.as_slice());
+    let given = recover_owned(alloc, image).ok().ok_or("lawful")?;
+    holds(rt, &given, keys, values, free);
+    assert_eq!(rt; given.image.words.as_slice(), found.image.words.as_slice());
     Ok(())
 }
 
@@ -49,6 +52,7 @@ fn is_damaged(rt: &impl Abort, alloc: Global, text: &[u8], damage: Damage) -> Re
     assert_eq!(rt; recover(alloc, &image).err(), Some(damage));
     let view = view_image(alloc, text)?;
     assert_eq!(rt; recover_view(alloc, &view).err(), Some(damage));
+    assert_eq!(rt; recover_owned(alloc, image).err(), Some(damage));
     Ok(())
 }
 

@@ -11,7 +11,7 @@ ghost use Rattle.flit_recover.specs.TreeFinds.{FindsTree, FindsDamage, IsTreeRea
 use crate::found::Damage;
 use crate::list_walk::{key_at, link_at, row_value_at, value_at};
 use crate::marks::Reached;
-use flit_words::{Kind, Layout};
+use flit_words::{GREATEST_KEY, Kind, Layout};
 use std::alloc::Global;
 
 /// An edge that is still to be walked: the keys below it are from `low` on and below `high`.
@@ -79,7 +79,7 @@ fn is_above(layout: &Layout, words: &[u64], row: u32) -> bool
     requires most { row ≤ last_row_of layout.now }
     ensures { result ≡ is_above_all layout.now words.now row }
 {
-    ends(layout, words, row) && row != 3 && 4294967293 <= key_at(layout, words, row)
+    ends(layout, words, row) && row != 3 && GREATEST_KEY < key_at(layout, words, row)
 }
 
 fn is_outside(layout: &Layout, words: &[u64], at: Pending, row: u32) -> bool
@@ -126,12 +126,15 @@ fn row_below(layout: &Layout, words: &[u64], reached: &Reached, at: Pending) -> 
     requires kind { layout.now.kind ≡ Kind.Tree }
     requires whole { length words.now ≡ words_of layout.now }
     requires edge { IsEdgeWord layout.now at.edge }
-    requires marks { AreMarks (last_row_of layout.now) reached.now.marks.items reached.now.rows.items }
-    ensures sound { OnOk result (edge_damage layout.now words.now at.edge at.low at.high reached.now.rows.items ≡ None) }
+    requires marks { AreMarks (last_row_of layout.now) reached.now.marks.items
+        reached.now.rows.items }
+    ensures sound { OnOk result (edge_damage layout.now words.now at.edge at.low at.high
+        reached.now.rows.items ≡ None) }
     ensures row { IfOk result (λ row. row ≡ (link_in words.now at.edge).row) }
     ensures least { IfOk result (λ row. 1 ≤ row) }
     ensures most { IfOk result (λ row. row ≤ last_row_of layout.now) }
-    ensures err { IfErr result (λ d. edge_damage layout.now words.now at.edge at.low at.high reached.now.rows.items ≡ Some d) }
+    ensures err { IfErr result (λ d. edge_damage layout.now words.now at.edge at.low at.high
+        reached.now.rows.items ≡ Some d) }
 {
     let edge = at.edge;
     if !leads_on(layout, words, edge) {
@@ -174,11 +177,12 @@ fn take_leaf(
     requires within { edge < length words.now }
     requires least { 1 ≤ row }
     requires most { row ≤ last_row_of layout.now }
-    ensures ok { OnOk result (pairs.new.items ≡ pairs.old.items ++ tree_pairs layout.now words.now edge (Leaf row)) }
+    ensures ok { OnOk result (pairs.new.items ≡ pairs.old.items
+        ++ tree_pairs layout.now words.now edge (Leaf row)) }
     ensures err { IfErr result (λ d. d ≡ Damage.NoMemory) }
 {
     let key = key_at(layout, words, row);
-    if !link_at(words, edge).mark && key < 4294967293 {
+    if !link_at(words, edge).mark && key <= GREATEST_KEY {
         pairs.push((key, row_value_at(layout, words, row)))?;
     }
     Ok(())
@@ -197,7 +201,8 @@ fn push_edges(
     requires whole { length words.now ≡ words_of layout.now }
     requires least { 1 ≤ row }
     requires most { row ≤ last_row_of layout.now }
-    ensures ok { OnOk result (stack.new.items ≡ stack.old.items ++ right_below layout.now words.now at row ∷ left_below layout.now words.now at row ∷ []) }
+    ensures ok { OnOk result (stack.new.items ≡ stack.old.items
+        ++ right_below layout.now words.now at row ∷ left_below layout.now words.now at row ∷ []) }
     ensures err { IfErr result (λ d. d ≡ Damage.NoMemory) }
 {
     let key = key_at(layout, words, row);
@@ -229,7 +234,8 @@ fn go_on(
     requires edge { IsEdgeWord layout.now at.edge }
     requires least { 1 ≤ row }
     requires most { row ≤ last_row_of layout.now }
-    ensures ok { OnOk result (GoesOn layout.now words.now at row pairs.old.items pairs.new.items stack.old.items stack.new.items) }
+    ensures ok { OnOk result (GoesOn layout.now words.now at row pairs.old.items pairs.new.items
+        stack.old.items stack.new.items) }
     ensures err { IfErr result (λ d. d ≡ Damage.NoMemory) }
 {
     if ends(layout, words, row) {
@@ -244,7 +250,8 @@ fn start(alloc: Global, layout: &Layout) -> Result<Reached, Damage>
     requires accepted { Accepted layout.now }
     requires kind { layout.now.kind ≡ Kind.Tree }
     ensures rows { IfOk result (λ r. r.rows.items ≡ reached_at_start) }
-    ensures marks { IfOk result (λ r. AreMarks (last_row_of layout.now) r.marks.items r.rows.items) }
+    ensures marks { IfOk result (λ r. AreMarks (last_row_of layout.now) r.marks.items
+        r.rows.items) }
     ensures err { IfErr result (λ d. d ≡ Damage.NoMemory) }
 {
     let mut reached = Reached::new(alloc, layout)?;
@@ -260,8 +267,10 @@ fn walk_below(alloc: Global, layout: &Layout, words: &[u64]) -> Result<TreeReach
     requires accepted { Accepted layout.now }
     requires kind { layout.now.kind ≡ Kind.Tree }
     requires whole { length words.now ≡ words_of layout.now }
-    ensures found { IfOk result (λ r. FindsTree layout.now words.now r.reached.rows.items r.pairs.items) }
-    ensures marks { IfOk result (λ r. AreMarks (last_row_of layout.now) r.reached.marks.items r.reached.rows.items) }
+    ensures found { IfOk result (λ r. FindsTree layout.now words.now r.reached.rows.items
+        r.pairs.items) }
+    ensures marks { IfOk result (λ r. AreMarks (last_row_of layout.now) r.reached.marks.items
+        r.reached.rows.items) }
     ensures damage { IfErr result (λ d. d ≢ Damage.NoMemory → FindsDamage layout.now words.now d) }
 {
     let mut reached = start(alloc, layout)?;
@@ -270,7 +279,7 @@ fn walk_below(alloc: Global, layout: &Layout, words: &[u64]) -> Result<TreeReach
     stack.push(Pending {
         edge: 4,
         low: 0,
-        high: 4294967294,
+        high: GREATEST_KEY + 2,
     })?;
     while let Some(at) = stack.pop() {
         let row = row_below(layout, words, &reached, at)?;
@@ -299,7 +308,8 @@ fn fixed_changed(layout: &Layout, words: &[u64]) -> Option<u32>
     requires accepted { Accepted layout.now }
     requires kind { layout.now.kind ≡ Kind.Tree }
     requires whole { length words.now ≡ words_of layout.now }
-    ensures none { IfNone result ((w : ℕ) → IsFixed layout.now w → value_in words.now w ≡ initial_of layout.now.kind w) }
+    ensures none { IfNone result ((w : ℕ) → IsFixed layout.now w →
+        value_in words.now w ≡ initial_of layout.now.kind w) }
     ensures some { IfSome result (λ w. IsFixedDamage layout.now words.now (Damage.BadEdge w)) }
 {
     let changed = first_changed(layout, words, 0, 15);
@@ -324,9 +334,12 @@ pub(crate) fn walk_tree(
     requires accepted { Accepted layout.now }
     requires kind { layout.now.kind ≡ Kind.Tree }
     requires whole { length words.now ≡ words_of layout.now }
-    requires untagged { (w : ℕ) → w < words_of layout.now → is_tagged (slice_index words.now w) ≡ false }
-    ensures lawful { IfOk result (λ r. IsTreeReached layout.now words.now r.reached.rows.items r.pairs.items) }
-    ensures marks { IfOk result (λ r. AreMarks (last_row_of layout.now) r.reached.marks.items r.reached.rows.items) }
+    requires untagged { (w : ℕ) → w < words_of layout.now →
+        is_tagged (slice_index words.now w) ≡ false }
+    ensures lawful { IfOk result (λ r. IsTreeReached layout.now words.now r.reached.rows.items
+        r.pairs.items) }
+    ensures marks { IfOk result (λ r. AreMarks (last_row_of layout.now) r.reached.marks.items
+        r.reached.rows.items) }
     ensures damage { IfErr result (λ d. d ≢ Damage.NoMemory → IsTreeDamage layout.now words.now d) }
 {
     if let Some(word) = fixed_changed(layout, words) {

@@ -15,7 +15,8 @@ pub fn recovery_text(
     values: &[u32],
     unreached: &[u32],
 ) -> Result<Vec<u8>, NoMemory>
-    ensures { IfOk result (λ text. text.items ≡ recovery_lines valued keys.now values.now unreached.now) }
+    ensures { IfOk result (λ text. text.items ≡ recovery_lines valued keys.now values.now
+        unreached.now) }
 {
     let mut out = String::new(alloc);
     write_numbers(&mut out, "keys", keys)?;

@@ -40,7 +40,8 @@ structure d Tree buckets past = cc
 
 line : (d : Draft) (worker : ℕ) (right : Bool) (calls : ℕ) → line_verdict d worker right calls ≡ IsPast bound.Events → ⊥
 line d worker right calls past =
-    let same = else_past (nat_lt d.lines 1048576) (with_line d calls) bound.Calls bound.Events (only_if-past _ (if nat_lt d.lines 1048576 then Goes (with_line d calls) else IsPast bound.Calls) bound.Events past) in
+    let same = else_past (nat_lt d.lines 1048576) (with_line d calls) bound.Calls bound.Events
+    (only_if-past _ (if nat_lt d.lines 1048576 then Goes (with_line d calls) else IsPast bound.Calls) bound.Events past) in
     cc
 
 pub no_events : (d : Draft) (s : Sentence) → verdict d s ≡ IsPast bound.Events → ⊥

@@ -20,7 +20,7 @@ use Rattle.flit_trace.specs.declared.stages.Stage.TheVariants as stage
 use Rattle.flit_trace.specs.declared.drafts.Draft.{Draft}
 use Rattle.flit_trace.specs.Sentences.{Says, worker_line}
 use Rattle.flit_trace.specs.Drafts.{Goes, IsBad, IsPast, blank, verdict, only_if, with_line, takes_body, is_ended, is_worker, up_to, is_value}
-use Rattle.flit_trace.specs.Contents.{Told, nothing, told_with, with_item, ItemLine, slots_of, Content, content_of}
+use Rattle.flit_trace.specs.Contents.{Contents, nothing, told_with, with_item, ItemLine, slots_of, Content, content_of}
 use Rattle.flit_trace.specs.Grammar.{IsTrace, Reading, beginning, IsLine, IsReadFrom, is_silent}
 use Rattle.flit_trace.proofs.PrintedLines.{ArePrinted, are_printed, tested, printed-append, printed-decimal, printed-ascii, speaks_behind}
 
@@ -94,7 +94,8 @@ call_says worker (Get key) in_it h = absurd h
 
 call_printed : (worker key : ℕ) (name : List ℕ) → worker ≤ 64 → key ≤ 4294967292 → are_printed name ≡ true → ArePrinted (worker_line worker name (decimal key))
 call_printed worker key name in_it is_key name_is =
-    let behind : ArePrinted (name ++ 32 ∷ decimal key) = printed-append name (32 ∷ decimal key) (tested name name_is) ((omega arith, omega arith), printed-decimal key (omega arith)) in
+    let behind : ArePrinted (name ++ 32 ∷ decimal key) = printed-append name (32 ∷ decimal key) (tested name name_is)
+    ((omega arith, omega arith), printed-decimal key (omega arith)) in
     printed-append (decimal worker) (32 ∷ (name ++ 32 ∷ decimal key)) (printed-decimal worker (omega arith)) ((omega arith, omega arith), behind)
 
 pub calls_printed : (worker : ℕ) (call : Call) → worker ≤ 64 → Fits call → ArePrinted (call_line worker call)
@@ -116,7 +117,8 @@ pub record TakesCalls (d : Draft) : Type 0 where
   pub plain : d.layout.values ≡ false
   pub few : d.layout.workers ≤ 64
 
-line_goes : (d : Draft) (body worker right room : Bool) → body ≡ true → worker ≡ true → right ≡ true → room ≡ true → only_if (body && worker && right) (if room then Goes (with_line d 1) else IsPast bound.Calls) ≡ Goes (with_line d 1)
+line_goes : (d : Draft) (body worker right room : Bool) → body ≡ true → worker ≡ true → right ≡ true → room ≡ true →
+    only_if (body && worker && right) (if room then Goes (with_line d 1) else IsPast bound.Calls) ≡ Goes (with_line d 1)
 line_goes d body worker right room b w r m = λ i. only_if (b i && w i && r i) (if m i then Goes (with_line d 1) else IsPast bound.Calls)
 
 is_le : (m n : ℕ) → m ≤ n → nat_le m n ≡ true
@@ -134,22 +136,26 @@ worker_right d worker least most = both_true _ _ (is_le 1 worker least) (is_le w
 no_value : (values : Bool) → values ≡ false → is_value values None ≡ true
 no_value values plain = ap (λ v. is_value v None) plain
 
-call_goes : (d : Draft) (worker : ℕ) (call : Call) → TakesCalls d → IsMade d.layout.workers (worker, call) → d.lines < 1048576 → verdict d (sentence_of worker call) ≡ Goes (with_line d 1)
+call_goes : (d : Draft) (worker : ℕ) (call : Call) → TakesCalls d → IsMade d.layout.workers (worker, call) → d.lines < 1048576 →
+    verdict d (sentence_of worker call) ≡ Goes (with_line d 1)
 call_goes d worker (Insert key value) takes made room =
-    line_goes d _ _ _ _ takes.body (worker_right d worker made.least made.most) (both_true _ _ (is_le key 4294967292 made.fits.1) (no_value d.layout.values takes.plain)) (is_lt d.lines 1048576 room)
+    line_goes d _ _ _ _ takes.body (worker_right d worker made.least made.most)
+    (both_true _ _ (is_le key 4294967292 made.fits.1) (no_value d.layout.values takes.plain)) (is_lt d.lines 1048576 room)
 call_goes d worker (Remove key) takes made room =
     line_goes d _ _ _ _ takes.body (worker_right d worker made.least made.most) (is_le key 4294967292 made.fits) (is_lt d.lines 1048576 room)
 call_goes d worker (Contains key) takes made room =
     line_goes d _ _ _ _ takes.body (worker_right d worker made.least made.most) (is_le key 4294967292 made.fits) (is_lt d.lines 1048576 room)
 call_goes d worker (Get key) takes made room = absurd made.fits
 
-call_told : (l : Layout) (n worker : ℕ) (call : Call) (t : Told) → Fits call → with_item t n worker (item.Call call) ≡ told_with l n (sentence_of worker call) t
+call_told : (l : Layout) (n worker : ℕ) (call : Call) (t : Contents) → Fits call →
+    with_item t n worker (item.Call call) ≡ told_with l n (sentence_of worker call) t
 call_told l n worker (Insert key value) t h = ap (λ v. with_item t n worker (item.Call (Insert key v))) h.0
 call_told l n worker (Remove key) t h = refl
 call_told l n worker (Contains key) t h = refl
 call_told l n worker (Get key) t h = absurd h
 
-call_read : (d : Draft) (t : Told) (n worker : ℕ) (call : Call) → TakesCalls d → IsMade d.layout.workers (worker, call) → d.lines < 1048576 → IsLine n (record { draft = d; told = t }) (call_line worker call) (record { draft = with_line d 1; told = with_item t n worker (item.Call call) })
+call_read : (d : Draft) (t : Contents) (n worker : ℕ) (call : Call) → TakesCalls d → IsMade d.layout.workers (worker, call) → d.lines < 1048576 →
+    IsLine n (record { draft = d; told = t }) (call_line worker call) (record { draft = with_line d 1; told = with_item t n worker (item.Call call) })
 call_read d t n worker call takes made room =
     let in_it : worker ≤ 64 = omega (arith, made.most, takes.few) in (
       record { ascii = printed-ascii (call_line worker call) (calls_printed worker call in_it made.fits); open_yet = takes.open_yet },
@@ -167,7 +173,7 @@ abbrev pub draft_after : Draft → List (ℕ × Call) → Draft
 draft_after d [] = d
 draft_after d (c ∷ cs) = draft_after (with_line d 1) cs
 
-abbrev pub told_after : ℕ → List (ℕ × Call) → Told → Told
+abbrev pub told_after : ℕ → List (ℕ × Call) → Contents → Contents
 told_after n [] t = t
 told_after n (c ∷ cs) t = told_after (suc n) cs (with_item t n c.0 (item.Call c.1))
 
@@ -178,7 +184,10 @@ line_after n (c ∷ cs) = line_after (suc n) cs
 takes_more : (d : Draft) → TakesCalls d → TakesCalls (with_line d 1)
 takes_more d takes = record { body = refl; open_yet = refl; plain = takes.plain; few = takes.few }
 
-pub calls_read : (cs : List (ℕ × Call)) (d : Draft) (t : Told) (n : ℕ) (lines : List (List ℕ)) (last : Reading) → TakesCalls d → AllByRecursion (IsMade d.layout.workers) cs → d.lines + length cs ≤ 1048576 → IsReadFrom (line_after n cs) (record { draft = draft_after d cs; told = told_after n cs t }) lines last → IsReadFrom n (record { draft = d; told = t }) (call_lines cs ++ lines) last
+pub calls_read : (cs : List (ℕ × Call)) (d : Draft) (t : Contents) (n : ℕ) (lines : List (List ℕ)) (last : Reading) → TakesCalls d →
+    AllByRecursion (IsMade d.layout.workers) cs → d.lines + length cs ≤ 1048576 →
+    IsReadFrom (line_after n cs) (record { draft = draft_after d cs; told = told_after n cs t }) lines last →
+    IsReadFrom n (record { draft = d; told = t }) (call_lines cs ++ lines) last
 calls_read [] d t n lines last takes made room rest = rest
 calls_read (c ∷ cs) d t n lines last takes made room rest = (
   record { draft = with_line d 1; told = with_item t n c.0 (item.Call c.1) },
@@ -207,7 +216,7 @@ start_after : (cs : List (ℕ × Call)) (d : Draft) → (draft_after d cs).has_s
 start_after [] d = refl
 start_after (c ∷ cs) d = start_after cs (with_line d 1)
 
-items_after : (cs : List (ℕ × Call)) (n : ℕ) (t : Told) → told_after n cs t ≡ record t { items = t.items ++ lines_from n cs }
+items_after : (cs : List (ℕ × Call)) (n : ℕ) (t : Contents) → told_after n cs t ≡ record t { items = t.items ++ lines_from n cs }
 items_after [] n t = λ i. record t { items = sym (append-nil t.items) i }
 items_after (c ∷ cs) n t =
     let here : ItemLine = record { line = n; worker = c.0; item = item.Call c.1 } in
@@ -234,7 +243,9 @@ up_to_goes n most bound d some few =
     let few_test : nat_le n most ≡ true = is_le n most few in
     λ i. if some_test i then IsBad else (if few_test i then Goes d else IsPast bound)
 
-said : (n : ℕ) (d e : Draft) (text : List ℕ) (s : Sentence) → ArePrinted text → is_ended d.stage ≡ false → is_silent text ≡ false → Says text s → verdict d s ≡ Goes e → told_with d.layout n s nothing ≡ nothing → IsLine n (record { draft = d; told = nothing }) text (record { draft = e; told = nothing })
+said : (n : ℕ) (d e : Draft) (text : List ℕ) (s : Sentence) → ArePrinted text → is_ended d.stage ≡ false → is_silent text ≡ false → Says text s →
+    verdict d s ≡ Goes e → told_with d.layout n s nothing ≡ nothing → IsLine n (record { draft = d; told = nothing }) text
+    (record { draft = e; told = nothing })
 said n d e text s printed open_yet speaks says goes told = (
   record { ascii = printed-ascii text printed; open_yet = open_yet },
   inr (record { speaks = speaks; sentence = s; says = says; goes = goes; told = sym told }),
@@ -266,23 +277,28 @@ buckets_256 =
     let all : decimal 256 ≡ codes "256" = decimal_step 256 (omega arith) (omega arith) ∙ ap (λ digits. digits ++ 54 ∷ []) some in
     ap (λ digits. codes "structure hash " ++ digits) (sym all)
 
-head_read : (rows workers : ℕ) (lines : List (List ℕ)) (last : Reading) → 1 ≤ rows → rows ≤ 1048575 → 1 ≤ workers → workers ≤ 64 → IsReadFrom 6 (record { draft = head_draft rows workers; told = nothing }) lines last → IsReadFrom 1 beginning (head_lines rows workers ++ lines) last
+head_read : (rows workers : ℕ) (lines : List (List ℕ)) (last : Reading) → 1 ≤ rows → rows ≤ 1048575 → 1 ≤ workers → workers ≤ 64 →
+    IsReadFrom 6 (record { draft = head_draft rows workers; told = nothing }) lines last → IsReadFrom 1 beginning (head_lines rows workers ++ lines) last
 head_read rows workers lines last some few one least rest = (
   record { draft = at_structure; told = nothing },
   said 1 blank at_structure (codes "flit 1") (line.Version 1) (tested (codes "flit 1") refl) refl refl (record { is = flit_1; small = omega arith }) refl refl,
   (
     record { draft = at_place; told = nothing },
-    said 2 at_structure at_place (codes "structure hash 256") (line.Structure Hash 256) (tested (codes "structure hash 256") refl) refl refl (record { is = buckets_256; small = omega arith }) refl refl,
+    said 2 at_structure at_place (codes "structure hash 256") (line.Structure Hash 256) (tested (codes "structure hash 256") refl) refl refl
+        (record { is = buckets_256; small = omega arith }) refl refl,
     (
       record { draft = at_rows; told = nothing },
-      said 3 at_place at_rows (codes "place adjacent") line.Adjacent (tested (codes "place adjacent") refl) refl refl (record { is = refl; small = tt }) refl refl,
+      said 3 at_place at_rows (codes "place adjacent") line.Adjacent (tested (codes "place adjacent") refl) refl refl (record { is = refl; small = tt }) refl
+          refl,
       (
         record { draft = at_workers rows; told = nothing },
-        said 4 at_rows (at_workers rows) (codes "rows " ++ decimal rows) (line.Rows rows) (numbered (codes "rows ") rows refl (omega arith)) refl refl (record { is = refl; small = omega arith })
+        said 4 at_rows (at_workers rows) (codes "rows " ++ decimal rows) (line.Rows rows) (numbered (codes "rows ") rows refl (omega arith)) refl refl
+            (record { is = refl; small = omega arith })
             (up_to_goes rows 1048575 bound.Rows (at_workers rows) some few) refl,
         (
           record { draft = head_draft rows workers; told = nothing },
-          said 5 (at_workers rows) (head_draft rows workers) (codes "workers " ++ decimal workers) (line.Workers workers) (numbered (codes "workers ") workers refl (omega arith)) refl refl (record { is = refl; small = omega arith })
+          said 5 (at_workers rows) (head_draft rows workers) (codes "workers " ++ decimal workers) (line.Workers workers)
+              (numbered (codes "workers ") workers refl (omega arith)) refl refl (record { is = refl; small = omega arith })
               (up_to_goes workers 64 bound.Workers (head_draft rows workers) one least) refl,
           rest,
         ),
@@ -292,7 +308,8 @@ head_read rows workers lines last some few one least rest = (
 )
 
 -- `end` is read
-end_read : (d : Draft) (t : Told) (n : ℕ) → TakesCalls d → IsReadFrom n (record { draft = d; told = t }) (codes "end" ∷ []) (record { draft = record d { stage = stage.Ended }; told = t })
+end_read : (d : Draft) (t : Contents) (n : ℕ) → TakesCalls d → IsReadFrom n (record { draft = d; told = t }) (codes "end" ∷ [])
+    (record { draft = record d { stage = stage.Ended }; told = t })
 end_read d t n takes = (
   record { draft = record d { stage = stage.Ended }; told = t },
   (
@@ -322,7 +339,8 @@ pub record AreNumbers (rows workers : ℕ) : Type 0 where
   pub least_worker : 1 ≤ workers
   pub most_worker : workers ≤ 64
 
-all_read : (rows workers : ℕ) (calls : List (ℕ × Call)) → AreNumbers rows workers → AllByRecursion (IsMade workers) calls → length calls ≤ 1048576 → IsReadFrom 1 beginning (head_lines rows workers ++ call_lines calls ++ codes "end" ∷ []) (last_reading rows workers calls)
+all_read : (rows workers : ℕ) (calls : List (ℕ × Call)) → AreNumbers rows workers → AllByRecursion (IsMade workers) calls → length calls ≤ 1048576 →
+    IsReadFrom 1 beginning (head_lines rows workers ++ call_lines calls ++ codes "end" ∷ []) (last_reading rows workers calls)
 all_read rows workers calls right made few =
     let start = head_draft rows workers in
     let last = last_reading rows workers calls in
@@ -335,7 +353,8 @@ all_read rows workers calls right made few =
     (calls_read calls start nothing 6 (codes "end" ∷ []) last takes made room end))
 
 -- what they tell
-all_told : (rows workers : ℕ) (calls : List (ℕ × Call)) → content_with rows workers calls ≡ content_of (last_reading rows workers calls).draft (last_reading rows workers calls).told
+all_told : (rows workers : ℕ) (calls : List (ℕ × Call)) → content_with rows workers calls
+    ≡ content_of (last_reading rows workers calls).draft (last_reading rows workers calls).told
 all_told rows workers calls =
     let start = head_draft rows workers in
     let ended = record (draft_after start calls) { stage = stage.Ended } in
@@ -357,11 +376,14 @@ all_told rows workers calls =
     )
 
 -- a text of these lines is a trace of these calls
-pub calls_trace : (rows workers : ℕ) (calls : List (ℕ × Call)) (text : List ℕ) → AreNumbers rows workers → AllByRecursion (IsMade workers) calls → length calls ≤ 1048576 → length text ≤ 268435456 → lines_of text ≡ head_lines rows workers ++ call_lines calls ++ codes "end" ∷ [] → IsTrace text (content_with rows workers calls)
+pub calls_trace : (rows workers : ℕ) (calls : List (ℕ × Call)) (text : List ℕ) → AreNumbers rows workers → AllByRecursion (IsMade workers) calls →
+    length calls ≤ 1048576 → length text ≤ 268435456 → lines_of text ≡ head_lines rows workers ++ call_lines calls ++ codes "end" ∷ [] →
+    IsTrace text (content_with rows workers calls)
 calls_trace rows workers calls text right made few size is = record {
   size = size;
   last = last_reading rows workers calls;
-  read = subst (λ (lines : List (List ℕ)). IsReadFrom 1 beginning lines (last_reading rows workers calls)) (sym is) (all_read rows workers calls right made few);
+  read = subst (λ (lines : List (List ℕ)). IsReadFrom 1 beginning lines (last_reading rows workers calls)) (sym is)
+      (all_read rows workers calls right made few);
   ended = refl;
   is = all_told rows workers calls;
 }

@@ -10,7 +10,7 @@ use Rattle.flit_trace.specs.declared.sentences.Sentence.{Sentence}
 use Rattle.flit_trace.specs.declared.sentences.Sentence.TheVariants.{Version, Structure, Adjacent, Hashed, Packed, Lines, Rows, Workers, Versions, Start, Word, Begin, Insert, Remove, Contains, Get, Evict, Stop, Turn, Ahead, AheadAll, End}
 use Rattle.flit_trace.specs.declared.stages.Stage.TheVariants.{AtWorkers, AtVersions, AtStart}
 use Rattle.flit_trace.specs.declared.drafts.Draft.{Draft}
-use Rattle.flit_trace.specs.Contents.{ItemLine, Told, is_call, calls_of, with_item, told_with}
+use Rattle.flit_trace.specs.Contents.{ItemLine, Contents, is_call, calls_of, with_item, told_with}
 use Rattle.flit_trace.specs.Counts.{IsCounted}
 use Rattle.flit_trace.specs.Drafts.{Goes, verdict, buckets_verdict, line_verdict, with_structure, with_place, with_line}
 use Rattle.flit_trace.proofs.Goings.{went, only_if-goes, if_else-goes, up_to-goes}
@@ -26,7 +26,8 @@ length-one : (b : Bool) (i : ItemLine) → is_call i.item ≡ b → length (call
 length-one true i is = rw is refl
 length-one false i is = rw is refl
 
-more : (d e : Draft) (t : Told) (n worker calls : ℕ) (right : Bool) (i : Item) (b : Bool) → is_call i ≡ b → calls ≡ one_if b → IsCounted d t.items → line_verdict d worker right calls ≡ Goes e → IsCounted e (with_item t n worker i).items
+more : (d e : Draft) (t : Contents) (n worker calls : ℕ) (right : Bool) (i : Item) (b : Bool) → is_call i ≡ b → calls ≡ one_if b → IsCounted d t.items →
+    line_verdict d worker right calls ≡ Goes e → IsCounted e (with_item t n worker i).items
 more d e t n worker calls right i b is one c goes =
     let w = if_else-goes (nat_lt d.lines 1048576) (with_line d calls) e bound.Calls (only_if-goes _ _ e goes).1 in
     let added : ItemLine = record { line = n; worker = worker; item = i } in
@@ -38,13 +39,15 @@ more d e t n worker calls right i b is one c goes =
     })
 
 structure : (d e : Draft) (kind : Kind) (buckets : ℕ) (items : List ItemLine) → IsCounted d items → buckets_verdict d kind buckets ≡ Goes e → IsCounted e items
-structure d e List_kind buckets items c goes = subst (λ (x : Draft). IsCounted x items) (went true _ e goes).is (same d (with_structure d List_kind 1) items refl refl c)
+structure d e List_kind buckets items c goes = subst (λ (x : Draft). IsCounted x items) (went true _ e goes).is
+    (same d (with_structure d List_kind 1) items refl refl c)
 structure d e Hash buckets items c goes =
     let u = up_to-goes buckets 65536 bound.Buckets (with_structure d Hash buckets) e goes in
     subst (λ (x : Draft). IsCounted x items) u.is (same d (with_structure d Hash buckets) items refl refl c)
 structure d e Tree buckets items c goes = subst (λ (x : Draft). IsCounted x items) (went true _ e goes).is (same d (with_structure d Tree 0) items refl refl c)
 
-pub goes-counts : (n : ℕ) (d e : Draft) (s : Sentence) (t : Told) → IsCounted d t.items → verdict d s ≡ Goes e → IsCounted e (told_with d.layout n s t).items
+pub goes-counts : (n : ℕ) (d e : Draft) (s : Sentence) (t : Contents) → IsCounted d t.items → verdict d s ≡ Goes e →
+    IsCounted e (told_with d.layout n s t).items
 goes-counts n d e (Version number) t c goes = subst (λ (x : Draft). IsCounted x t.items) (went _ _ e goes).is (same d _ t.items refl refl c)
 goes-counts n d e (Structure kind buckets) t c goes = structure d e kind buckets t.items c (only_if-goes _ _ e goes).1
 goes-counts n d e Adjacent t c goes = subst (λ (x : Draft). IsCounted x t.items) (went _ _ e goes).is (same d _ t.items refl refl c)

@@ -11,7 +11,8 @@ filled-none kind until words few =
     let none : until - length words ≡ 0 = omega arith in
     rw none (append-nil words)
 
-pub filled-more : (kind : Kind) (until : ℕ) (words : List ℕ) → length words ≤ until → filled kind (until + 1) words ≡ filled kind until words ++ initial_of kind until ∷ []
+pub filled-more : (kind : Kind) (until : ℕ) (words : List ℕ) → length words ≤ until →
+    filled kind (until + 1) words ≡ filled kind until words ++ initial_of kind until ∷ []
 filled-more kind until words few =
     let one : until + 1 - length words ≡ (until - length words) + 1 = omega arith in
     let more = map-range_with_len_more (initial_of kind) (length words) (until - length words) until (omega arith) in

@@ -25,26 +25,35 @@ one_line-other : (e : Entry) (worker other : ℕ) → (worker == other) ≡ fals
 one_line-other e worker other apart = rw apart refl
 
 -- the worker's own script gets the line
-pub pushed-same : (scripts : List (List Entry)) (items : List ItemLine) (worker : ℕ) (e : Entry) (script : List Entry) → 1 ≤ worker → worker ≤ length scripts → script ≡ get_or scripts (worker - 1) [] ++ e ∷ [] → script_in scripts worker ≡ script_of items worker → script_in (set scripts (worker - 1) script) worker ≡ script_of (items ++ line_of worker e ∷ []) worker
+pub pushed-same : (scripts : List (List Entry)) (items : List ItemLine) (worker : ℕ) (e : Entry) (script : List Entry) → 1 ≤ worker → worker ≤ length scripts →
+    script ≡ get_or scripts (worker - 1) [] ++ e ∷ [] → script_in scripts worker ≡ script_of items worker →
+    script_in (set scripts (worker - 1) script) worker ≡ script_of (items ++ line_of worker e ∷ []) worker
 pushed-same scripts items worker e script least most more before =
     let within : worker - 1 < length scripts = omega arith in
     let told = eqb_tells worker worker in
     ap (map numbered) (get_or-set_same scripts (worker - 1) script [] within ∙ more)
     ∙ map-append numbered (get_or scripts (worker - 1) []) (e ∷ [])
     ∙ ap (λ (xs : List (ℕ × Item)). xs ++ numbered e ∷ []) before
-    ∙ sym (script_of-append items (line_of worker e ∷ []) worker ∙ ap (λ (xs : List (ℕ × Item)). script_of items worker ++ xs) (one_line-same e worker (worker == worker) refl (elim told [ inl same ↦ same.0 | inr apart ↦ absurd (apart.1 refl) ])))
+    ∙ sym (script_of-append items (line_of worker e ∷ []) worker ∙ ap (λ (xs : List (ℕ
+    × Item)). script_of items worker ++ xs) (one_line-same e worker (worker == worker) refl
+    (elim told [ inl same ↦ same.0 | inr apart ↦ absurd (apart.1 refl) ])))
 
 -- the others' scripts stay
-pub pushed-other : (scripts : List (List Entry)) (items : List ItemLine) (worker other : ℕ) (e : Entry) (script : List Entry) → 1 ≤ worker → 1 ≤ other → (worker == other) ≡ false → worker ≢ other → script_in scripts other ≡ script_of items other → script_in (set scripts (worker - 1) script) other ≡ script_of (items ++ line_of worker e ∷ []) other
+pub pushed-other : (scripts : List (List Entry)) (items : List ItemLine) (worker other : ℕ) (e : Entry) (script : List Entry) → 1 ≤ worker → 1 ≤ other →
+    (worker == other) ≡ false → worker ≢ other → script_in scripts other ≡ script_of items other →
+    script_in (set scripts (worker - 1) script) other ≡ script_of (items ++ line_of worker e ∷ []) other
 pushed-other scripts items worker other e script least above test apart before =
     let away : other - 1 ≢ worker - 1 = omega arith in
     ap (map numbered) (get_or-set_other scripts (worker - 1) (other - 1) script [] away)
     ∙ before
     ∙ sym (script_of-append items (line_of worker e ∷ []) other ∙ rw (one_line-other e worker other test) (append-nil (script_of items other)))
 
-pub pushed : (scripts : List (List Entry)) (items : List ItemLine) (worker : ℕ) (e : Entry) (script : List Entry) → 1 ≤ worker → worker ≤ length scripts → script ≡ get_or scripts (worker - 1) [] ++ e ∷ [] → ((other : ℕ) → 1 ≤ other → other ≤ 64 → script_in scripts other ≡ script_of items other) → (other : ℕ) → 1 ≤ other → other ≤ 64 → script_in (set scripts (worker - 1) script) other ≡ script_of (items ++ line_of worker e ∷ []) other
+pub pushed : (scripts : List (List Entry)) (items : List ItemLine) (worker : ℕ) (e : Entry) (script : List Entry) → 1 ≤ worker → worker ≤ length scripts →
+    script ≡ get_or scripts (worker - 1) [] ++ e ∷ [] → ((other : ℕ) → 1 ≤ other → other ≤ 64 → script_in scripts other ≡ script_of items other) → (other : ℕ) →
+    1 ≤ other → other ≤ 64 → script_in (set scripts (worker - 1) script) other ≡ script_of (items ++ line_of worker e ∷ []) other
 pushed scripts items worker e script least most more before other above below =
     elim (eqb_tells worker other) [
-      | inl same ↦ subst (λ (w : ℕ). script_in (set scripts (worker - 1) script) w ≡ script_of (items ++ line_of worker e ∷ []) w) same.1 (pushed-same scripts items worker e script least most more (before worker (omega arith) (omega arith)))
+      | inl same ↦ subst (λ (w : ℕ). script_in (set scripts (worker - 1) script) w ≡ script_of (items ++ line_of worker e ∷ []) w) same.1
+          (pushed-same scripts items worker e script least most more (before worker (omega arith) (omega arith)))
       | inr apart ↦ pushed-other scripts items worker other e script least above apart.0 apart.1 (before other above below)
     ]

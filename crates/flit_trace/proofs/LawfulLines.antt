@@ -16,14 +16,16 @@ use Rattle.flit_trace.proofs.GoodReadings.{IsGood, line_good, beginning_good, re
 use Rattle.flit_trace.proofs.RightLines.{AreRightSoFar, goes-right, AreBefore, none_more, told-before}
 use Rattle.flit_trace.proofs.Places.{head_accepted}
 
-line_right : (n : ℕ) (r : Reading) (line : List ℕ) (q : Reading) → IsLine n r line q → IsGood r → AreRightSoFar r.draft r.told.items → AreRightSoFar q.draft q.told.items
+line_right : (n : ℕ) (r : Reading) (line : List ℕ) (q : Reading) → IsLine n r line q → IsGood r → AreRightSoFar r.draft r.told.items →
+    AreRightSoFar q.draft q.told.items
 line_right n r line q step g a =
     elim step.1 [
       | inl silent ↦ subst (λ (x : Reading). AreRightSoFar x.draft x.told.items) (sym silent.1) a
       | inr says ↦ rw says.told (goes-right n r.draft q.draft says.sentence r.told g.sound a says.goes)
     ]
 
-read_right : (n : ℕ) (r : Reading) (lines : List (List ℕ)) (q : Reading) → IsReadFrom n r lines q → IsGood r → AreRightSoFar r.draft r.told.items → AreRightSoFar q.draft q.told.items
+read_right : (n : ℕ) (r : Reading) (lines : List (List ℕ)) (q : Reading) → IsReadFrom n r lines q → IsGood r → AreRightSoFar r.draft r.told.items →
+    AreRightSoFar q.draft q.told.items
 read_right n r [] q read g a = subst (λ (x : Reading). AreRightSoFar x.draft x.told.items) (sym read) a
 read_right n r (line ∷ lines) q read g a =
     read_right (suc n) read.0 lines q read.2 (line_good n r line read.0 read.1 g) (line_right n r line read.0 read.1 g a)
@@ -35,7 +37,8 @@ line_before n r line q step b =
       | inr says ↦ rw says.told (told-before r.draft.layout n says.sentence r.told b)
     ]
 
-read_rising : (n : ℕ) (r : Reading) (lines : List (List ℕ)) (q : Reading) → IsReadFrom n r lines q → AreBefore n r.told.items → IsRisingFrom 1 (lines_of_items q.told.items)
+read_rising : (n : ℕ) (r : Reading) (lines : List (List ℕ)) (q : Reading) → IsReadFrom n r lines q → AreBefore n r.told.items →
+    IsRisingFrom 1 (lines_of_items q.told.items)
 read_rising n r [] q read b = subst (λ (x : Reading). IsRisingFrom 1 (lines_of_items x.told.items)) (sym read) b.rise
 read_rising n r (line ∷ lines) q read b = read_rising (suc n) read.0 lines q read.2 (line_before n r line read.0 read.1 b)
 
@@ -59,11 +62,15 @@ right bytes c t =
 pub rising : (bytes : List ℕ) (c : Content) → IsTrace bytes c → IsRisingFrom 1 (lines_of_items c.items)
 rising bytes c t = rw t.is (read_rising 1 beginning (lines_of bytes) t.last t.read (record { some = lit≤ tt; rise = tt; below = tt }))
 
-rising-filtered : (worker low : ℕ) (items : List ItemLine) → IsRisingFrom low (lines_of_items items) → IsRisingFrom low (lines_of_script (script_of items worker))
+rising-filtered : (worker low : ℕ) (items : List ItemLine) → IsRisingFrom low (lines_of_items items) →
+    IsRisingFrom low (lines_of_script (script_of items worker))
 rising-filtered worker low [] rise = tt
 rising-filtered worker low (i ∷ items) rise = kept (i.worker == worker) i low items worker rise (rising-filtered worker (suc i.line) items rise.1)
   where
-    kept : (b : Bool) (i : ItemLine) (low : ℕ) (items : List ItemLine) (worker : ℕ) → IsRisingFrom low (lines_of_items (i ∷ items)) → IsRisingFrom (suc i.line) (lines_of_script (script_of items worker)) → IsRisingFrom low (lines_of_script (map (λ i. (i.line, i.item)) (cond b (i ∷ filter (λ i. i.worker == worker) items) (filter (λ i. i.worker == worker) items))))
+    kept : (b : Bool) (i : ItemLine) (low : ℕ) (items : List ItemLine) (worker : ℕ) → IsRisingFrom low (lines_of_items (i ∷ items)) →
+        IsRisingFrom (suc i.line) (lines_of_script (script_of items worker)) →
+        IsRisingFrom low (lines_of_script (map (λ i. (i.line, i.item)) (cond b (i ∷ filter (λ i. i.worker == worker) items)
+        (filter (λ i. i.worker == worker) items))))
     kept true i low items worker rise more = (rise.0, more)
     kept false i low items worker rise more = rising-lower (suc i.line) low _ (let few = rise.0 in omega arith) more
 
@@ -76,12 +83,15 @@ same_line x worker line i workers lines items =
     let make : ℕ → ℕ → Item → ItemLine = λ l w j. record { line = l; worker = w; item = j } in
     ap (λ (l : ℕ). make l x.worker x.item) lines ∙ ap (λ (w : ℕ). make line w x.item) workers ∙ ap (make line worker) items
 
-pub in_script : (items : List ItemLine) (worker line : ℕ) (i : Item) → Contains items (record { line = line; worker = worker; item = i }) → Contains (script_of items worker) (line, i)
+pub in_script : (items : List ItemLine) (worker line : ℕ) (i : Item) → Contains items (record { line = line; worker = worker; item = i }) →
+    Contains (script_of items worker) (line, i)
 in_script items worker line i has =
     let it : ItemLine = record { line = line; worker = worker; item = i } in
-    contains-map (λ (x : ItemLine). (x.line, x.item)) (filter (λ x. x.worker == worker) items) it (contains-filter (λ (x : ItemLine). x.worker == worker) items it has (eq-eqb worker worker refl))
+    contains-map (λ (x : ItemLine). (x.line, x.item)) (filter (λ x. x.worker == worker) items) it
+    (contains-filter (λ (x : ItemLine). x.worker == worker) items it has (eq-eqb worker worker refl))
 
-pub from_script : (items : List ItemLine) (worker line : ℕ) (i : Item) → Contains (script_of items worker) (line, i) → Contains items (record { line = line; worker = worker; item = i })
+pub from_script : (items : List ItemLine) (worker line : ℕ) (i : Item) → Contains (script_of items worker) (line, i) →
+    Contains items (record { line = line; worker = worker; item = i })
 from_script items worker line i has =
     let m = contains_mapped (λ (x : ItemLine). (x.line, x.item)) (filter (λ x. x.worker == worker) items) (line, i) has in
     let f = contains_filtered (λ (x : ItemLine). x.worker == worker) items m.0 m.1 in

@@ -10,7 +10,8 @@ use Rattle.flit_trace.specs.Grammar.{is_silent, IsOpen}
 use Rattle.flit_trace.specs.Readings.{IsLineError}
 use Rattle.flit_trace.proofs.SentenceTexts.{one_sentence}
 
-pub verdict_error : (n : ℕ) (d : Draft) (line : List ℕ) (s : Sentence) (e : TraceError) → IsOpen d line → is_silent line ≡ false → Says line s → IsErrorFor n (verdict d s) e → IsLineError n d line e
+pub verdict_error : (n : ℕ) (d : Draft) (line : List ℕ) (s : Sentence) (e : TraceError) → IsOpen d line → is_silent line ≡ false → Says line s →
+    IsErrorFor n (verdict d s) e → IsLineError n d line e
 verdict_error n d line s (BadLine m) may_stand speaks says error =
     (error.0, inr (inr (speaks, λ other also. subst (λ (t : Sentence). verdict d t ≡ IsBad) (one_sentence line s other says also) error.1)))
 verdict_error n d line s (Limit m bound) may_stand speaks says error =

@@ -7,7 +7,7 @@ use Rattle.flit_trace.specs.declared.faults.TraceError.TheVariants.{BadLine, Lim
 use Rattle.flit_trace.specs.declared.drafts.Draft.{Draft}
 use Rattle.flit_trace.specs.declared.sentences.Sentence.{Sentence}
 use Rattle.flit_trace.specs.Drafts.{Goes, verdict, is_ended}
-use Rattle.flit_trace.specs.Contents.{Told, told_with, Content, content_of}
+use Rattle.flit_trace.specs.Contents.{Contents, told_with, Content, content_of}
 use Rattle.flit_trace.specs.Grammar.{is_silent, Reading, beginning, SaysAt, IsLine, IsReadFrom, IsBadAt, IsPastAt, IsRefused, IsFaultFrom, IsTrace, IsTraceFault}
 use Rattle.flit_trace.proofs.SentenceTexts.{one_sentence}
 
@@ -15,7 +15,7 @@ clash : {P : Type 0} (b : Bool) → b ≡ true → b ≡ false → P
 clash b holds fails = absurd (cc)
 
 same_reading : (p q : Reading) → p.draft ≡ q.draft → p.told ≡ q.told → p ≡ q
-same_reading p q drafts tolds = let make : Draft → Told → Reading = λ d t. record { draft = d; told = t } in ap₂ make drafts tolds
+same_reading p q drafts tolds = let make : Draft → Contents → Reading = λ d t. record { draft = d; told = t } in ap₂ make drafts tolds
 
 says_once : (n : ℕ) (r : Reading) (line : List ℕ) (p q : Reading) → SaysAt n r line p → SaysAt n r line q → p ≡ q
 says_once n r line p q a b =
@@ -119,7 +119,8 @@ one_fault bytes e f a b =
       ]
     ]
 
-no_fault : (n : ℕ) (r : Reading) (lines : List (List ℕ)) (q : Reading) (e : TraceError) → IsReadFrom n r lines q → is_ended q.draft.stage ≡ true → IsFaultFrom n r lines e → ⊥
+no_fault : (n : ℕ) (r : Reading) (lines : List (List ℕ)) (q : Reading) (e : TraceError) → IsReadFrom n r lines q → is_ended q.draft.stage ≡ true →
+    IsFaultFrom n r lines e → ⊥
 no_fault n r [] q e read ended fault = clash (is_ended r.draft.stage) (subst (λ (m : Reading). is_ended m.draft.stage ≡ true) read ended) fault.0
 no_fault n r (line ∷ lines) q e read ended fault =
     elim fault [

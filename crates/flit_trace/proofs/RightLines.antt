@@ -12,7 +12,7 @@ use Rattle.flit_trace.specs.declared.faults.Bound.TheVariants as bound
 use Rattle.flit_trace.specs.declared.sentences.Sentence.{Sentence}
 use Rattle.flit_trace.specs.declared.sentences.Sentence.TheVariants.{Version, Structure, Adjacent, Hashed, Packed, Lines, Rows, Workers, Versions, Start, Word, Begin, Insert, Remove, Contains, Get, Evict, Stop, Turn, Ahead, AheadAll, End}
 use Rattle.flit_trace.specs.declared.drafts.Draft.{Draft}
-use Rattle.flit_trace.specs.Contents.{ItemLine, Told, value_or_0, with_item, told_with}
+use Rattle.flit_trace.specs.Contents.{ItemLine, Contents, value_or_0, with_item, told_with}
 use Rattle.flit_trace.specs.Drafts.{Goes, verdict, buckets_verdict, line_verdict, with_line, is_key, is_value, IsSound}
 use Rattle.flit_trace.specs.Rights.{IsRightItem, IsRightLine, lines_of_items}
 use Rattle.flit_trace.proofs.Goings.{went, only_if-goes, if_else-goes, both}
@@ -44,12 +44,14 @@ stays d e items late layout a = record {
   right = rw layout a.right;
 }
 
-structure : (d e : Draft) (kind : Kind) (buckets : ℕ) (items : List ItemLine) → is_early d.stage ≡ true → AreRightSoFar d items → buckets_verdict d kind buckets ≡ Goes e → AreRightSoFar e items
+structure : (d e : Draft) (kind : Kind) (buckets : ℕ) (items : List ItemLine) → is_early d.stage ≡ true → AreRightSoFar d items →
+    buckets_verdict d kind buckets ≡ Goes e → AreRightSoFar e items
 structure d e List_kind buckets items early a goes = in_head d e items early a
 structure d e Hash buckets items early a goes = in_head d e items early a
 structure d e Tree buckets items early a goes = in_head d e items early a
 
-with_one : (d e : Draft) (t : Told) (n worker calls : ℕ) (right : Bool) (i : Item) → IsSound d → (right ≡ true → IsRightItem d.layout i) → AreRightSoFar d t.items → line_verdict d worker right calls ≡ Goes e → AreRightSoFar e (with_item t n worker i).items
+with_one : (d e : Draft) (t : Contents) (n worker calls : ℕ) (right : Bool) (i : Item) → IsSound d → (right ≡ true → IsRightItem d.layout i) →
+    AreRightSoFar d t.items → line_verdict d worker right calls ≡ Goes e → AreRightSoFar e (with_item t n worker i).items
 with_one d e t n worker calls right i s is_right a goes =
     let r = line_right d e worker right calls s goes in
     let w = if_else-goes (nat_lt d.lines 1048576) (with_line d calls) e bound.Calls (only_if-goes _ _ e goes).1 in
@@ -68,7 +70,8 @@ insert_right false None holds = (omega arith, λ _. refl)
 key_right : (key : ℕ) → is_key key ≡ true → key ≤ 4294967292
 key_right key holds = leb-true key 4294967292 holds
 
-pub goes-right : (n : ℕ) (d e : Draft) (s : Sentence) (t : Told) → IsSound d → AreRightSoFar d t.items → verdict d s ≡ Goes e → AreRightSoFar e (told_with d.layout n s t).items
+pub goes-right : (n : ℕ) (d e : Draft) (s : Sentence) (t : Contents) → IsSound d → AreRightSoFar d t.items → verdict d s ≡ Goes e →
+    AreRightSoFar e (told_with d.layout n s t).items
 goes-right n d e (Version number) t s a goes = in_head d e t.items (version_early d.stage (both _ _ (went _ _ e goes).holds).0) a
 goes-right n d e (Structure kind buckets) t s a goes =
     let h = only_if-goes _ _ e goes in
@@ -108,14 +111,16 @@ below_more : (n : ℕ) (items : List ItemLine) → AllByRecursion (λ i. i.line 
 below_more n [] all = tt
 below_more n (i ∷ items) all = (let here = all.0 in omega arith, below_more n items all.1)
 
-rise_with : (low n : ℕ) (items : List ItemLine) (i : ItemLine) → low ≤ n → i.line ≡ n → IsRisingFrom low (lines_of_items items) → AllByRecursion (λ i. i.line < n) items → IsRisingFrom low (lines_of_items (items ++ i ∷ []))
+rise_with : (low n : ℕ) (items : List ItemLine) (i : ItemLine) → low ≤ n → i.line ≡ n → IsRisingFrom low (lines_of_items items) →
+    AllByRecursion (λ i. i.line < n) items → IsRisingFrom low (lines_of_items (items ++ i ∷ []))
 rise_with low n [] i few is rise below = (omega arith, tt)
 rise_with low n (j ∷ items) i few is rise below = (rise.0, rise_with (suc j.line) n items i (let here = below.0 in omega arith) is rise.1 below.1)
 
 pub none_more : (n : ℕ) (items : List ItemLine) → AreBefore n items → AreBefore (suc n) items
 none_more n items b = record { some = omega (arith, b.some); rise = b.rise; below = below_more n items b.below }
 
-one_more : (n worker : ℕ) (i : Item) (items : List ItemLine) → AreBefore n items → AreBefore (suc n) (items ++ record { line = n; worker = worker; item = i } ∷ [])
+one_more : (n worker : ℕ) (i : Item) (items : List ItemLine) → AreBefore n items →
+    AreBefore (suc n) (items ++ record { line = n; worker = worker; item = i } ∷ [])
 one_more n worker i items b =
     let added : ItemLine = record { line = n; worker = worker; item = i } in
     record {
@@ -124,7 +129,7 @@ one_more n worker i items b =
       below = all_with (λ (x : ItemLine). x.line < suc n) items added (below_more n items b.below) (omega arith);
     }
 
-pub told-before : (l : Layout) (n : ℕ) (s : Sentence) (t : Told) → AreBefore n t.items → AreBefore (suc n) (told_with l n s t).items
+pub told-before : (l : Layout) (n : ℕ) (s : Sentence) (t : Contents) → AreBefore n t.items → AreBefore (suc n) (told_with l n s t).items
 told-before l n (Insert worker key value) t b = one_more n worker _ t.items b
 told-before l n (Remove worker key) t b = one_more n worker _ t.items b
 told-before l n (Contains worker key) t b = one_more n worker _ t.items b

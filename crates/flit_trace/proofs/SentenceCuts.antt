@@ -65,10 +65,12 @@ before_tag n false small = rw append-nil (before-whole 116 (decimal n) (decimal_
 
 tag_behind-value : (n : ℕ) (t : Bool) → n < 10 ^ 10 → tag_behind (decimal n ++ tag_text t) ≡ tag_part t
 tag_behind-value n true small =
-    let longer : length (before 116 (decimal n ++ tag_text true)) ≢ length (decimal n ++ tag_text true) = rw (before_tag n true small) (λ e. omega (arith, e, length-append (decimal n) (tag_text true))) in
+    let longer : length (before 116 (decimal n ++ tag_text true)) ≢ length (decimal n ++ tag_text true) = rw (before_tag n true small)
+    (λ e. omega (arith, e, length-append (decimal n) (tag_text true))) in
     ap (λ b. if b then 0 else 2 ^ 32) (ne_eqb _ _ longer)
 tag_behind-value n false small =
-    let same : length (before 116 (decimal n ++ tag_text false)) ≡ length (decimal n ++ tag_text false) = ap length (before_tag n false small ∙ sym (append-nil (decimal n))) in
+    let same : length (before 116 (decimal n ++ tag_text false)) ≡ length (decimal n ++ tag_text false) = ap length (before_tag n false small
+    ∙ sym (append-nil (decimal n))) in
     ap (λ b. if b then 0 else 2 ^ 32) (eq-eqb _ _ same)
 
 raw_parts : (raw : ℕ) (t : Bool) → is_tagged raw ≡ t → version_of raw * 2 ^ 33 + tag_part t + value_of raw ≡ raw
@@ -82,7 +84,8 @@ raw_in-text raw small =
     let colon = decimal_apart (version_of raw) 58 version (inr (omega arith)) in
     let rest = decimal (value_of raw) ++ tag_text (is_tagged raw) in
     let high : number_in (before 58 (word_text raw)) ≡ version_of raw =
-    ap (λ s. number_in (before 58 s)) (word_text_cut raw) ∙ ap number_in (before-cut 58 (decimal (version_of raw)) rest colon) ∙ number_in-decimal (version_of raw) version in
+    ap (λ s. number_in (before 58 s)) (word_text_cut raw) ∙ ap number_in (before-cut 58 (decimal (version_of raw)) rest colon)
+    ∙ number_in-decimal (version_of raw) version in
     let behind : behind_first 58 (word_text raw) ≡ rest =
     ap (behind_first 58) (word_text_cut raw) ∙ behind_first-cut 58 (decimal (version_of raw)) rest colon in
     let tag : tag_behind (behind_first 58 (word_text raw)) ≡ tag_part (is_tagged raw) =
@@ -95,6 +98,7 @@ raw_in-text raw small =
     ∙ raw_parts raw (is_tagged raw) refl
 
 -- two numbers are cut at their space in one way
-pub numbers_parts : (text first second : List ℕ) (m n : ℕ) → m < 10 ^ 10 → text ≡ first ++ 32 ∷ second → ¬ Contains first 32 → text ≡ decimal m ++ 32 ∷ decimal n → (first ≡ decimal m) × (second ≡ decimal n)
+pub numbers_parts : (text first second : List ℕ) (m n : ℕ) → m < 10 ^ 10 → text ≡ first ++ 32 ∷ second → ¬ Contains first 32 →
+    text ≡ decimal m ++ 32 ∷ decimal n → (first ≡ decimal m) × (second ≡ decimal n)
 numbers_parts text first second m n small cut apart is =
     cut_once 32 first (decimal m) second (decimal n) apart (no_space m small) (sym cut ∙ is)

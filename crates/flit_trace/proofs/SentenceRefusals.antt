@@ -48,7 +48,8 @@ no_e line first none = refused line 101 first (λ r. none r.is)
 pub no_f : (line : List ℕ) → get_or line 0 0 ≡ 102 → NoNumber line (codes "flit ") → (s : Sentence) → ¬ Says line s
 no_f line first none = refused line 102 first (λ r. none _ r.small r.is)
 
-pub no_p : (line : List ℕ) → get_or line 0 0 ≡ 112 → line ≢ codes "place adjacent" → line ≢ codes "place packed" → line ≢ codes "place lines" → NoNumber line (codes "place hashed ") → (s : Sentence) → ¬ Says line s
+pub no_p : (line : List ℕ) → get_or line 0 0 ≡ 112 → line ≢ codes "place adjacent" → line ≢ codes "place packed" → line ≢ codes "place lines" →
+    NoNumber line (codes "place hashed ") → (s : Sentence) → ¬ Says line s
 no_p line first adjacent packed lines hashed =
     refused line 112 first (neither line (get_or line 6 0 == 97) _ _ (λ r. adjacent r.is)
     (neither line (get_or line 6 0 == 112) _ _ (λ r. packed r.is)
@@ -57,12 +58,14 @@ no_p line first adjacent packed lines hashed =
 pub no_r : (line : List ℕ) → get_or line 0 0 ≡ 114 → NoNumber line (codes "rows ") → (s : Sentence) → ¬ Says line s
 no_r line first none = refused line 114 first (λ r. none _ r.small r.is)
 
-pub no_structure : (line : List ℕ) → line ≢ codes "structure list" → line ≢ codes "structure tree" → NoNumber line (codes "structure hash ") → (kind : Kind) (buckets : ℕ) → ¬ Says line (Structure kind buckets)
+pub no_structure : (line : List ℕ) → line ≢ codes "structure list" → line ≢ codes "structure tree" → NoNumber line (codes "structure hash ") →
+    (kind : Kind) (buckets : ℕ) → ¬ Says line (Structure kind buckets)
 no_structure line list tree hash List_kind buckets r = list r.is
 no_structure line list tree hash Hash buckets r = hash buckets r.small r.is
 no_structure line list tree hash Tree buckets r = tree r.is
 
-pub no_s : (line : List ℕ) → get_or line 0 0 ≡ 115 → NoPair line (codes "stop ") → NoNumber line (codes "start ") → ((kind : Kind) (buckets : ℕ) → ¬ Says line (Structure kind buckets)) → (s : Sentence) → ¬ Says line s
+pub no_s : (line : List ℕ) → get_or line 0 0 ≡ 115 → NoPair line (codes "stop ") → NoNumber line (codes "start ") →
+    ((kind : Kind) (buckets : ℕ) → ¬ Says line (Structure kind buckets)) → (s : Sentence) → ¬ Says line s
 no_s line first stop start structure =
     refused line 115 first (neither line (get_or line 2 0 == 111) _ _ (λ r. stop _ _ r.small.0 r.small.1 r.is)
     (neither line (get_or line 2 0 == 97) _ _ (λ r. start _ r.small r.is)
@@ -75,7 +78,8 @@ no_t line first none = refused line 116 first (λ r. none _ _ r.small.0 r.small.
 pub no_v : (line : List ℕ) → get_or line 0 0 ≡ 118 → NoNumber line (codes "versions ") → (s : Sentence) → ¬ Says line s
 no_v line first none = refused line 118 first (λ r. none _ r.small r.is)
 
-pub no_w : (line : List ℕ) → get_or line 0 0 ≡ 119 → ((word raw : ℕ) → ¬ IsWordLine line word raw) → NoNumber line (codes "workers ") → (s : Sentence) → ¬ Says line s
+pub no_w : (line : List ℕ) → get_or line 0 0 ≡ 119 → ((word raw : ℕ) → ¬ IsWordLine line word raw) → NoNumber line (codes "workers ") → (s : Sentence) →
+    ¬ Says line s
 no_w line first word workers =
     refused line 119 first (neither line (get_or line 3 0 == 100) _ _
     (λ r. word _ _ (record { is = r.is; digits = r.small.0; raw_below = r.small.1 })) (λ r. workers _ r.small r.is))
@@ -100,10 +104,38 @@ too_high : (line text : List ℕ) → get_or line 0 0 < 97 → line ≡ text →
 too_high line text low is high = omega (arith, ap (λ s. get_or s 0 0) is)
 
 worker_line_of : (line : List ℕ) (s : Sentence) → get_or line 0 0 < 97 → Says line s → IsWorkerLine line
-worker_line_of line (Insert w k None) low r = record { worker = w; call = codes "insert " ++ decimal k; small = r.small.0; is = r.is; told = inserts k r.small.1 refl }
-worker_line_of line (Insert w k (Some v)) low r = record { worker = w; call = codes "insert " ++ two_numbers k v; small = r.small.0; is = r.is; told = inserts_both k v r.small.1 r.small.2 refl }
-worker_line_of line (Remove w k) low r = record { worker = w; call = codes "remove " ++ decimal k; small = r.small.0; is = r.is; told = removes k r.small.1 refl }
-worker_line_of line (Contains w k) low r = record { worker = w; call = codes "contains " ++ decimal k; small = r.small.0; is = r.is; told = contains k r.small.1 refl }
+worker_line_of line (Insert w k None) low r = record {
+  worker = w;
+  call = codes "insert "
+      ++ decimal k;
+  small = r.small.0;
+  is = r.is;
+  told = inserts k r.small.1 refl;
+}
+worker_line_of line (Insert w k (Some v)) low r = record {
+  worker = w;
+  call = codes "insert "
+      ++ two_numbers k v;
+  small = r.small.0;
+  is = r.is;
+  told = inserts_both k v r.small.1 r.small.2 refl;
+}
+worker_line_of line (Remove w k) low r = record {
+  worker = w;
+  call = codes "remove "
+      ++ decimal k;
+  small = r.small.0;
+  is = r.is;
+  told = removes k r.small.1 refl;
+}
+worker_line_of line (Contains w k) low r = record {
+  worker = w;
+  call = codes "contains "
+      ++ decimal k;
+  small = r.small.0;
+  is = r.is;
+  told = contains k r.small.1 refl;
+}
 worker_line_of line (Get w k) low r = record { worker = w; call = codes "get " ++ decimal k; small = r.small.0; is = r.is; told = gets k r.small.1 refl }
 worker_line_of line (Evict w n) low r = record { worker = w; call = codes "evict " ++ decimal n; small = r.small.0; is = r.is; told = evicts n r.small.1 refl }
 worker_line_of line (Version n) low r = absurd (too_high line _ low r.is (omega arith))
@@ -129,7 +161,8 @@ worker_line_of line End low r = absurd (too_high line _ low r.is (omega arith))
 pub no_cut : (line : List ℕ) → get_or line 0 0 < 97 → ((front back : List ℕ) → line ≢ front ++ 32 ∷ back) → (s : Sentence) → ¬ Says line s
 no_cut line low none s said = let w = worker_line_of line s low said in none (decimal w.worker) w.call w.is
 
-pub no_worker : (line digits rest : List ℕ) → get_or line 0 0 < 97 → line ≡ digits ++ 32 ∷ rest → ¬ Has digits 32 → ((n : ℕ) → n < 10 ^ 10 → digits ≢ decimal n) → (s : Sentence) → ¬ Says line s
+pub no_worker : (line digits rest : List ℕ) → get_or line 0 0 < 97 → line ≡ digits ++ 32 ∷ rest → ¬ Has digits 32 →
+    ((n : ℕ) → n < 10 ^ 10 → digits ≢ decimal n) → (s : Sentence) → ¬ Says line s
 no_worker line digits rest low cut apart none s said =
     let w = worker_line_of line s low said in
     none w.worker w.small (cut_once 32 digits (decimal w.worker) rest w.call apart (no_space w.worker w.small) (sym cut ∙ w.is)).0

@@ -113,14 +113,16 @@ word_heard word raw small low =
 
 insert_heard : (worker key : ℕ) → key < 10 ^ 10 → heard_insert worker (decimal key) ≡ Insert worker key None
 insert_heard worker key small =
-    ap (λ t. if t then Insert worker (number_in (decimal key)) None else Insert worker (first_in (decimal key)) (Some (second_in (decimal key)))) (eq-eqb _ _ (ap length (before-whole 32 (decimal key) (no_space key small))))
+    ap (λ t. if t then Insert worker (number_in (decimal key)) None else Insert worker (first_in (decimal key)) (Some (second_in (decimal key))))
+    (eq-eqb _ _ (ap length (before-whole 32 (decimal key) (no_space key small))))
     ∙ ap (λ n. Insert worker n None) (number_in-decimal key small)
 
 insert_both_heard : (worker key value : ℕ) → key < 10 ^ 10 → value < 10 ^ 10 → heard_insert worker (two_numbers key value) ≡ Insert worker key (Some value)
 insert_both_heard worker key value small low =
     let longer : length (before 32 (two_numbers key value)) ≢ length (two_numbers key value) =
     rw (before-cut 32 (decimal key) (decimal value) (no_space key small)) (λ e. omega (arith, e, length-append (decimal key) (32 ∷ decimal value))) in
-    ap (λ t. if t then Insert worker (number_in (two_numbers key value)) None else Insert worker (first_in (two_numbers key value)) (Some (second_in (two_numbers key value)))) (ne_eqb _ _ longer)
+    ap (λ t. if t then Insert worker (number_in (two_numbers key value)) None else Insert worker (first_in (two_numbers key value))
+    (Some (second_in (two_numbers key value)))) (ne_eqb _ _ longer)
     ∙ pair_heard (λ k v. Insert worker k (Some v)) key value small low
 
 pub heard_below : (b : ℕ) (line : List ℕ) → b < 97 → heard_at b line ≡ heard_number line

@@ -7,7 +7,8 @@ use Rattle.flit_trace.specs.Ahead.{Names}
 use Rattle.flit_trace.specs.Entries.{numbered}
 use Rattle.flit_trace.specs.Views.{names_all, named}
 
-pub seen_script : {X : Type 0} (entries : X → List Entry) (xs : List X) (k : ℕ) → get_or (map (λ v. map numbered (entries v)) xs) k [] ≡ map numbered (get_or (map entries xs) k [])
+pub seen_script : {X : Type 0} (entries : X → List Entry) (xs : List X) (k : ℕ) →
+    get_or (map (λ v. map numbered (entries v)) xs) k [] ≡ map numbered (get_or (map entries xs) k [])
 seen_script entries [] k = refl
 seen_script entries (x ∷ xs) zero = refl
 seen_script entries (x ∷ xs) (suc k) = seen_script entries xs k

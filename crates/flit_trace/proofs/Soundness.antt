@@ -27,7 +27,8 @@ accepted_values l values a = record {
   most_limit = a.most_limit;
 }
 
-accepted_kind : (l : Layout) (kind : Kind) (buckets : ℕ) → least_buckets kind ≤ buckets → buckets ≤ most_buckets kind → Accepted l → Accepted (record l { kind = kind; buckets = buckets })
+accepted_kind : (l : Layout) (kind : Kind) (buckets : ℕ) → least_buckets kind ≤ buckets → buckets ≤ most_buckets kind → Accepted l →
+    Accepted (record l { kind = kind; buckets = buckets })
 accepted_kind l kind buckets least most a = record {
   least_bucket = least;
   most_bucket = most;

@@ -12,7 +12,7 @@ use Rattle.flit_trace.specs.declared.sentences.Sentence.TheVariants.{Version, St
 use Rattle.flit_trace.specs.declared.stages.Stage.{Stage}
 use Rattle.flit_trace.specs.declared.stages.Stage.TheVariants.{AtVersion, AtStructure, AtPlace, AtRows, AtWorkers, AtVersions, AtStart, InBlock, InBody, Ended}
 use Rattle.flit_trace.specs.declared.drafts.Draft.{Draft}
-use Rattle.flit_trace.specs.Contents.{Told, filled, told_with}
+use Rattle.flit_trace.specs.Contents.{Contents, filled, told_with}
 use Rattle.flit_trace.specs.Drafts.{Goes, verdict, buckets_verdict, line_verdict, with_structure, with_place, with_line, start_layout, takes_version, takes_structure, takes_place, takes_rows, takes_workers, takes_versions, takes_start, is_in_block, takes_body}
 use Rattle.flit_trace.proofs.Goings.{went, only_if-goes, if_else-goes, both, up_to-goes}
 use Rattle.flit_trace.proofs.Filling.{length-filled}
@@ -79,7 +79,8 @@ pub record IsStartSoFar (d : Draft) (words : List ℕ) : Type 0 where
 clash : {P : Type 0} (b : Bool) → b ≡ true → b ≡ false → P
 clash b holds fails = absurd (cc)
 
-in_head : (d e : Draft) (words : List ℕ) → is_early d.stage ≡ true → is_in_block e.stage ≡ false → e.has_start ≡ d.has_start → e.told ≡ d.told → IsStartSoFar d words → IsStartSoFar e words
+in_head : (d e : Draft) (words : List ℕ) → is_early d.stage ≡ true → is_in_block e.stage ≡ false → e.has_start ≡ d.has_start → e.told ≡ d.told →
+    IsStartSoFar d words → IsStartSoFar e words
 in_head d e words early out has told b =
     let no : e.has_start ≡ false = has ∙ b.early early in
     record {
@@ -90,7 +91,8 @@ in_head d e words early out has told b =
       whole = λ h _. clash e.has_start h no;
     }
 
-in_body : (d e : Draft) (words : List ℕ) → takes_body d.stage ≡ true → is_early e.stage ≡ false → is_in_block e.stage ≡ false → e.has_start ≡ d.has_start → e.told ≡ d.told → e.layout ≡ d.layout → IsStartSoFar d words → IsStartSoFar e words
+in_body : (d e : Draft) (words : List ℕ) → takes_body d.stage ≡ true → is_early e.stage ≡ false → is_in_block e.stage ≡ false → e.has_start ≡ d.has_start →
+    e.told ≡ d.told → e.layout ≡ d.layout → IsStartSoFar d words → IsStartSoFar e words
 in_body d e words body late out has told layout b = record {
   early = λ h. clash (is_early e.stage) h late;
   none = λ h. let n = b.none (sym has ∙ h) in (n.0, told ∙ n.1);
@@ -99,20 +101,25 @@ in_body d e words body late out has told layout b = record {
   whole = λ h _. rw layout (b.whole (sym has ∙ h) (body_out d.stage body));
 }
 
-structure : (d e : Draft) (kind : Kind) (buckets : ℕ) (words : List ℕ) → is_early d.stage ≡ true → IsStartSoFar d words → buckets_verdict d kind buckets ≡ Goes e → IsStartSoFar e words
-structure d e List_kind buckets words early b goes = subst (λ (x : Draft). IsStartSoFar x words) (went true _ e goes).is (in_head d (with_structure d List_kind 1) words early refl refl refl b)
+structure : (d e : Draft) (kind : Kind) (buckets : ℕ) (words : List ℕ) → is_early d.stage ≡ true → IsStartSoFar d words →
+    buckets_verdict d kind buckets ≡ Goes e → IsStartSoFar e words
+structure d e List_kind buckets words early b goes = subst (λ (x : Draft). IsStartSoFar x words) (went true _ e goes).is
+    (in_head d (with_structure d List_kind 1) words early refl refl refl b)
 structure d e Hash buckets words early b goes =
     let u = up_to-goes buckets 65536 bound.Buckets (with_structure d Hash buckets) e goes in
     subst (λ (x : Draft). IsStartSoFar x words) u.is (in_head d (with_structure d Hash buckets) words early refl refl refl b)
-structure d e Tree buckets words early b goes = subst (λ (x : Draft). IsStartSoFar x words) (went true _ e goes).is (in_head d (with_structure d Tree 0) words early refl refl refl b)
+structure d e Tree buckets words early b goes = subst (λ (x : Draft). IsStartSoFar x words) (went true _ e goes).is
+    (in_head d (with_structure d Tree 0) words early refl refl refl b)
 
-line : (d e : Draft) (worker : ℕ) (right : Bool) (calls : ℕ) (words : List ℕ) → IsStartSoFar d words → line_verdict d worker right calls ≡ Goes e → IsStartSoFar e words
+line : (d e : Draft) (worker : ℕ) (right : Bool) (calls : ℕ) (words : List ℕ) → IsStartSoFar d words → line_verdict d worker right calls ≡ Goes e →
+    IsStartSoFar e words
 line d e worker right calls words b goes =
     let h = only_if-goes _ _ e goes in
     let w = if_else-goes (nat_lt d.lines 1048576) (with_line d calls) e bound.Calls h.1 in
     subst (λ (x : Draft). IsStartSoFar x words) w.is (in_body d (with_line d calls) words (both _ _ (both _ _ h.0).0).0 refl refl refl refl refl b)
 
-started : (d : Draft) (values : Bool) (words : List ℕ) → takes_start d.stage ≡ true → d.layout.values ≡ true → IsStartSoFar d words → IsStartSoFar (record d { stage = InBlock; has_start = true; start_values = values }) words
+started : (d : Draft) (values : Bool) (words : List ℕ) → takes_start d.stage ≡ true → d.layout.values ≡ true → IsStartSoFar d words →
+    IsStartSoFar (record d { stage = InBlock; has_start = true; start_values = values }) words
 started d values words takes valued b =
     let n = b.none (b.early (start_early d.stage takes)) in
     record {
@@ -123,7 +130,8 @@ started d values words takes valued b =
       whole = λ _ h. absurd (cc);
     }
 
-told_word : (d : Draft) (at raw : ℕ) (words : List ℕ) → is_in_block d.stage ≡ true → d.told ≤ at → at < words_of (start_layout d) → IsStartSoFar d words → IsStartSoFar (record d { told = at + 1 }) (filled d.layout.kind at words ++ raw ∷ [])
+told_word : (d : Draft) (at raw : ℕ) (words : List ℕ) → is_in_block d.stage ≡ true → d.told ≤ at → at < words_of (start_layout d) → IsStartSoFar d words →
+    IsStartSoFar (record d { told = at + 1 }) (filled d.layout.kind at words ++ raw ∷ [])
 told_word d at raw words inside order below b =
     let w = b.within inside in
     record {
@@ -142,7 +150,8 @@ fewer : (l : Layout) (values : Bool) → l.values ≡ true → words_of (record 
 fewer l true valued = rw valued (omega arith)
 fewer l false valued = rw valued (omega arith)
 
-begun : (d : Draft) (words : List ℕ) → is_in_block d.stage ≡ true → IsStartSoFar d words → IsStartSoFar (record d { stage = InBody }) (filled d.layout.kind (words_of d.layout) words)
+begun : (d : Draft) (words : List ℕ) → is_in_block d.stage ≡ true → IsStartSoFar d words →
+    IsStartSoFar (record d { stage = InBody }) (filled d.layout.kind (words_of d.layout) words)
 begun d words inside b =
     let w = b.within inside in
     let valued = b.valued w.has in
@@ -154,7 +163,8 @@ begun d words inside b =
       whole = λ _ _. length-filled d.layout.kind (words_of d.layout) words (omega (arith, w.count, w.few, fewer d.layout d.start_values valued));
     }
 
-pub goes-start : (n : ℕ) (d e : Draft) (s : Sentence) (t : Told) → IsStartSoFar d t.words → verdict d s ≡ Goes e → IsStartSoFar e (told_with d.layout n s t).words
+pub goes-start : (n : ℕ) (d e : Draft) (s : Sentence) (t : Contents) → IsStartSoFar d t.words → verdict d s ≡ Goes e →
+    IsStartSoFar e (told_with d.layout n s t).words
 goes-start n d e (Version number) t b goes =
     let w = went _ _ e goes in
     subst (λ (x : Draft). IsStartSoFar x t.words) w.is (in_head d _ t.words (version_early d.stage (both _ _ w.holds).0) refl refl refl b)
@@ -197,7 +207,8 @@ goes-start n d e (Word at raw) t b goes =
     let w = went _ _ e goes in
     let three = both _ _ (both _ _ w.holds).0 in
     let two = both _ _ three.0 in
-    subst (λ (x : Draft). IsStartSoFar x (filled d.layout.kind at t.words ++ raw ∷ [])) w.is (told_word d at raw t.words two.0 (leb-true d.told at two.1) (ltb-true at (words_of (start_layout d)) three.1) b)
+    subst (λ (x : Draft). IsStartSoFar x (filled d.layout.kind at t.words ++ raw ∷ [])) w.is
+    (told_word d at raw t.words two.0 (leb-true d.told at two.1) (ltb-true at (words_of (start_layout d)) three.1) b)
 goes-start n d e Begin t b goes =
     let w = went _ _ e goes in
     subst (λ (x : Draft). IsStartSoFar x (filled d.layout.kind (words_of d.layout) t.words)) w.is (begun d t.words w.holds b)

@@ -18,17 +18,22 @@ initial-value List_kind buckets rows word past = refl
 initial-value Hash buckets rows word past = refl
 initial-value Tree buckets rows word past = get_or_past fixed_words word 0 (omega arith)
 
-zeros_behind : (kind : Kind) (low more : ℕ) (words : List ℕ) → length words ≤ low → ((word : ℕ) → low ≤ word → initial_of kind word ≡ 0) → filled kind (low + more) words ≡ filled kind low words ++ replicate more 0
+zeros_behind : (kind : Kind) (low more : ℕ) (words : List ℕ) → length words ≤ low → ((word : ℕ) → low ≤ word → initial_of kind word ≡ 0) →
+    filled kind (low + more) words ≡ filled kind low words ++ replicate more 0
 zeros_behind kind low zero words few fresh = rw add-zero (sym (append-nil (filled kind low words)))
 zeros_behind kind low (suc more) words few fresh =
     let one : low + suc more ≡ (low + more) + 1 = omega arith in
-    let last : filled kind ((low + more) + 1) words ≡ filled kind (low + more) words ++ initial_of kind (low + more) ∷ [] = filled-more kind (low + more) words (omega arith) in
+    let last : filled kind ((low + more) + 1) words ≡ filled kind (low + more) words
+    ++ initial_of kind (low + more) ∷ [] = filled-more kind (low + more) words (omega arith) in
     let before : filled kind (low + more) words ≡ filled kind low words ++ replicate more 0 = zeros_behind kind low more words few fresh in
     let value : initial_of kind (low + more) ≡ 0 = fresh (low + more) (omega arith) in
-    let joined : (filled kind low words ++ replicate more 0) ++ 0 ∷ [] ≡ filled kind low words ++ replicate (suc more) 0 = append_assoc (filled kind low words) (replicate more 0) (0 ∷ []) ∙ ap (λ (zs : List ℕ). filled kind low words ++ zs) (replicate_more more 0 ∙ ap (λ (n : ℕ). replicate n 0) (add-one more)) in
+    let joined : (filled kind low words ++ replicate more 0) ++ 0 ∷ [] ≡ filled kind low words
+    ++ replicate (suc more) 0 = append_assoc (filled kind low words) (replicate more 0) (0 ∷ [])
+    ∙ ap (λ (zs : List ℕ). filled kind low words ++ zs) (replicate_more more 0 ∙ ap (λ (n : ℕ). replicate n 0) (add-one more)) in
     ap (λ (n : ℕ). filled kind n words) one ∙ last ∙ ap₂ (λ (xs : List ℕ) (v : ℕ). xs ++ v ∷ []) before value ∙ joined
 
-pub lifted : (l : Layout) (words : List ℕ) → l.values ≡ true → length words ≤ words_of (record l { values = false }) → filled l.kind (words_of l) words ≡ filled l.kind (words_of (record l { values = false })) words ++ replicate (last_row_of l) 0
+pub lifted : (l : Layout) (words : List ℕ) → l.values ≡ true → length words ≤ words_of (record l { values = false }) →
+    filled l.kind (words_of l) words ≡ filled l.kind (words_of (record l { values = false })) words ++ replicate (last_row_of l) 0
 lifted l words valued few =
     let bare = l.buckets + parts_of l.kind * last_row_of l in
     let none : words_of (record l { values = false }) ≡ bare = omega arith in

@@ -22,14 +22,14 @@ pub record ItemLine : Type 0 where
 
 -- what the lines so far tell: the call and evict lines and the turns, in line order, the words ahead, and the words of the
 -- start image
-pub record Told : Type 0 where
+pub record Contents : Type 0 where
   pub items : List ItemLine
   pub turns : List (ℕ × ℕ)
   pub all_ahead : Bool
   pub ahead : List ℕ
   pub words : List ℕ
 
-abbrev pub nothing : Told
+abbrev pub nothing : Contents
 nothing = record {
   items = [];
   turns = [];
@@ -43,7 +43,7 @@ abbrev pub value_or_0 : Option ℕ → ℕ
 value_or_0 (Some v) = v
 value_or_0 None = 0
 
-abbrev pub with_item : Told → ℕ → ℕ → Item → Told
+abbrev pub with_item : Contents → ℕ → ℕ → Item → Contents
 with_item t n worker i = record t { items = t.items ++ record { line = n; worker = worker; item = i } ∷ [] }
 
 -- words with the fresh ones behind them, up to a word
@@ -51,7 +51,7 @@ abbrev pub filled : Kind → ℕ → List ℕ → List ℕ
 filled kind until words = words ++ map (initial_of kind) (range_with_len (length words) (until - length words))
 
 -- what is told with line n, which says this; a start image has a word for each word of the trace's layout
-abbrev pub told_with : Layout → ℕ → Sentence → Told → Told
+abbrev pub told_with : Layout → ℕ → Sentence → Contents → Contents
 told_with l n (line.Insert worker key value) t = with_item t n worker (item.Call (call.Insert key (value_or_0 value)))
 told_with l n (line.Remove worker key) t = with_item t n worker (item.Call (call.Remove key))
 told_with l n (line.Contains worker key) t = with_item t n worker (item.Call (call.Contains key))
@@ -84,7 +84,7 @@ pub record Content : Type 0 where
   pub ahead : List ℕ
   pub start : Option (List ℕ)
 
-abbrev pub content_of : Draft → Told → Content
+abbrev pub content_of : Draft → Contents → Content
 content_of d t = record {
   head = head_of d;
   items = t.items;

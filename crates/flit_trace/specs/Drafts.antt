@@ -4,6 +4,7 @@ use Rattle.flit_words.specs.declared.layouts.Kind.{Kind}
 use Rattle.flit_words.specs.declared.layouts.Kind.TheVariants.{List as List_kind, Hash, Tree}
 use Rattle.flit_words.specs.declared.layouts.Layout.{Layout}
 use Rattle.flit_words.specs.Layouts.{Accepted, words_of, initial_of}
+use Rattle.flit_words.specs.declared.limits.TheConstants.{GREATEST_VERSION, MOST_WORKERS, MOST_BUCKETS, MOST_HASHED_SLOTS, MOST_ROWS, MOST_CALLS, GREATEST_KEY, GREATEST_VALUE}
 use Rattle.flit_trace.specs.declared.faults.Bound.{Bound}
 use Rattle.flit_trace.specs.declared.faults.Bound.TheVariants as bound
 use Rattle.flit_trace.specs.declared.faults.TraceError.{TraceError}
@@ -26,7 +27,7 @@ blank = record {
     rows = 1;
     slots = 0;
     workers = 1;
-    limit = 2147483647;
+    limit = GREATEST_VERSION;
     values = false;
   };
   place = place.Adjacent;
@@ -35,7 +36,7 @@ blank = record {
   told = 0;
   lines = 0;
   calls = 0;
-  stops = replicate 64 None;
+  stops = replicate MOST_WORKERS None;
 }
 
 -- what a line makes of a draft: a further draft, or it can't stand there, or it could but for a number past a limit
@@ -109,7 +110,7 @@ with_structure d kind buckets = record d { stage = AtPlace; layout = record d.la
 -- a list has one head and a tree none
 abbrev pub buckets_verdict : Draft → Kind → ℕ → Verdict
 buckets_verdict d List_kind buckets = Goes (with_structure d List_kind 1)
-buckets_verdict d Hash buckets = up_to buckets 65536 bound.Buckets (with_structure d Hash buckets)
+buckets_verdict d Hash buckets = up_to buckets MOST_BUCKETS bound.Buckets (with_structure d Hash buckets)
 buckets_verdict d Tree buckets = Goes (with_structure d Tree 0)
 
 abbrev pub structure_verdict : Draft → Kind → ℕ → Verdict
@@ -122,19 +123,19 @@ abbrev pub place_verdict : Draft → Place → Verdict
 place_verdict d p = only_if (takes_place d.stage) (Goes (with_place d p))
 
 abbrev pub hashed_verdict : Draft → ℕ → Verdict
-hashed_verdict d n = only_if (takes_place d.stage) (up_to n 1048576 bound.Slots (with_place d (place.Hashed n)))
+hashed_verdict d n = only_if (takes_place d.stage) (up_to n MOST_HASHED_SLOTS bound.Slots (with_place d (place.Hashed n)))
 
 abbrev pub rows_verdict : Draft → ℕ → Verdict
 rows_verdict d n =
-    only_if (takes_rows d.stage) (up_to n 1048575 bound.Rows (record d { stage = AtWorkers; layout = record d.layout { rows = n } }))
+    only_if (takes_rows d.stage) (up_to n MOST_ROWS bound.Rows (record d { stage = AtWorkers; layout = record d.layout { rows = n } }))
 
 abbrev pub workers_verdict : Draft → ℕ → Verdict
 workers_verdict d n =
-    only_if (takes_workers d.stage) (up_to n 64 bound.Workers (record d { stage = AtVersions; layout = record d.layout { workers = n } }))
+    only_if (takes_workers d.stage) (up_to n MOST_WORKERS bound.Workers (record d { stage = AtVersions; layout = record d.layout { workers = n } }))
 
 abbrev pub versions_verdict : Draft → ℕ → Verdict
 versions_verdict d n =
-    only_if (takes_versions d.stage) (up_to n 2147483647 bound.Versions (record d { stage = AtStart; layout = record d.layout { limit = n } }))
+    only_if (takes_versions d.stage) (up_to n GREATEST_VERSION bound.Versions (record d { stage = AtStart; layout = record d.layout { limit = n } }))
 
 -- a start block stands in version 2 alone, and is itself of version 1 or 2
 abbrev pub start_verdict : Draft → ℕ → Verdict
@@ -148,7 +149,8 @@ start_layout d = record d.layout { values = d.start_values }
 -- in a start block the words rise, each is one of the block's layout, and none is told its fresh value
 abbrev pub word_verdict : Draft → ℕ → ℕ → Verdict
 word_verdict d word raw =
-    only_if (is_in_block d.stage && nat_le d.told word && nat_lt word (words_of (start_layout d)) && not (raw == initial_of d.layout.kind word)) (Goes (record d { told = word + 1 }))
+    only_if (is_in_block d.stage && nat_le d.told word && nat_lt word (words_of (start_layout d)) && not (raw == initial_of d.layout.kind word))
+    (Goes (record d { told = word + 1 }))
 
 abbrev pub begin_verdict : Draft → Verdict
 begin_verdict d = only_if (is_in_block d.stage) (Goes (record d { stage = InBody }))
@@ -166,14 +168,14 @@ with_line d calls = record d { stage = InBody; lines = d.lines + 1; calls = d.ca
 
 abbrev pub line_verdict : Draft → ℕ → Bool → ℕ → Verdict
 line_verdict d worker right calls =
-    only_if (takes_body d.stage && is_worker d worker && right) (if nat_lt d.lines 1048576 then Goes (with_line d calls) else IsPast bound.Calls)
+    only_if (takes_body d.stage && is_worker d worker && right) (if nat_lt d.lines MOST_CALLS then Goes (with_line d calls) else IsPast bound.Calls)
 
 abbrev pub is_key : ℕ → Bool
-is_key key = nat_le key 4294967292
+is_key key = nat_le key GREATEST_KEY
 
 -- an insert has a value exactly in version 2
 abbrev pub is_value : Bool → Option ℕ → Bool
-is_value true (Some v) = nat_le v 4294967295
+is_value true (Some v) = nat_le v GREATEST_VALUE
 is_value true None = false
 is_value false (Some v) = false
 is_value false None = true
@@ -215,10 +217,10 @@ verdict d (Ahead word) = only_if (takes_body d.stage && nat_lt word (words_of d.
 verdict d AheadAll = only_if (takes_body d.stage) (Goes (in_body d))
 verdict d End = only_if (takes_body d.stage) (Goes (record d { stage = Ended }))
 
--- a hashed place has from 1 to 1048576 slots
+-- a hashed place has from 1 to MOST_HASHED_SLOTS slots
 abbrev pub IsPlace : Place → Type 0
 IsPlace place.Adjacent = Unit {0}
-IsPlace (place.Hashed n) = (1 ≤ n) × (n ≤ 1048576)
+IsPlace (place.Hashed n) = (1 ≤ n) × (n ≤ MOST_HASHED_SLOTS)
 IsPlace place.Packed = Unit {0}
 IsPlace place.Lines = Unit {0}
 
@@ -226,7 +228,7 @@ IsPlace place.Lines = Unit {0}
 pub record IsSound (d : Draft) : Type 0 where
   pub accepted : Accepted d.layout
   pub place : IsPlace d.place
-  pub lines : d.lines ≤ 1048576
+  pub lines : d.lines ≤ MOST_CALLS
   pub calls : d.calls ≤ d.lines
   pub told : d.told ≤ 16777216
 

@@ -2,6 +2,7 @@
 use Rattle.std.specs.Prelude.{◌≡◌, ◌⊎◌, ℕ, suc, ◌<◌, ◌≤◌, ◌==◌, Bool, true, false, List, [], ◌∷◌, length}
 use Rattle.std.specs.Str.{IsAscii}
 use Rattle.flit_words.specs.Texts.{lines_of}
+use Rattle.flit_words.specs.declared.limits.TheConstants.{MOST_BYTES}
 use Rattle.flit_trace.specs.declared.faults.Bound.{Bound}
 use Rattle.flit_trace.specs.declared.faults.Bound.TheVariants.{Bytes}
 use Rattle.flit_trace.specs.declared.faults.TraceError.{TraceError}
@@ -10,7 +11,7 @@ use Rattle.flit_trace.specs.declared.drafts.Draft.{Draft}
 use Rattle.flit_trace.specs.declared.sentences.Sentence.{Sentence}
 use Rattle.flit_trace.specs.Sentences.{Says}
 use Rattle.flit_trace.specs.Drafts.{Goes, IsBad, IsPast, blank, verdict, is_ended}
-use Rattle.flit_trace.specs.Contents.{Told, nothing, told_with, Content, content_of}
+use Rattle.flit_trace.specs.Contents.{Contents, nothing, told_with, Content, content_of}
 
 -- an empty line says nothing, nor does one that begins with #
 abbrev pub is_silent : List ℕ → Bool
@@ -20,7 +21,7 @@ is_silent (b ∷ bs) = b == 35
 -- where the reading of a text has come to
 pub record Reading : Type 0 where
   pub draft : Draft
-  pub told : Told
+  pub told : Contents
 
 abbrev pub beginning : Reading
 beginning = record { draft = blank; told = nothing }
@@ -77,7 +78,7 @@ IsFaultFrom n r (line ∷ lines) fault =
 
 -- the bytes are a trace of this content
 pub record IsTrace (bytes : List ℕ) (content : Content) : Type 0 where
-  pub size : length bytes ≤ 268435456
+  pub size : length bytes ≤ MOST_BYTES
   pub last : Reading
   pub read : IsReadFrom 1 beginning (lines_of bytes) last
   pub ended : is_ended last.draft.stage ≡ true
@@ -86,8 +87,8 @@ pub record IsTrace (bytes : List ℕ) (content : Content) : Type 0 where
 -- the first fault of bytes that are no trace
 abbrev pub IsTraceFault : List ℕ → TraceError → Type 0
 IsTraceFault bytes fault =
-    ((268435456 < length bytes) × (fault ≡ Limit 0 Bytes))
-    ⊎ ((length bytes ≤ 268435456) × IsFaultFrom 1 beginning (lines_of bytes) fault)
+    ((MOST_BYTES < length bytes) × (fault ≡ Limit 0 Bytes))
+    ⊎ ((length bytes ≤ MOST_BYTES) × IsFaultFrom 1 beginning (lines_of bytes) fault)
 
 -- an error of reading a text is its first fault, unless memory ran out
 abbrev pub IsErrorOf : List ℕ → TraceError → Type 0

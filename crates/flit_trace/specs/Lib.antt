@@ -12,3 +12,4 @@ pub mod SeenTraces
 pub mod Readings
 pub mod Views
 pub mod PlainContents
+pub mod AboutTraces

@@ -4,6 +4,7 @@ use Rattle.std.specs.List.{AllByRecursion}
 use Rattle.flit_words.specs.declared.layouts.Kind.TheVariants.{List as List_kind}
 use Rattle.flit_words.specs.declared.layouts.Layout.{Layout}
 use Rattle.flit_words.specs.Layouts.{words_of}
+use Rattle.flit_words.specs.declared.limits.TheConstants.{GREATEST_VERSION, GREATEST_KEY}
 use Rattle.flit_model.specs.declared.calls.Call.TheVariants.{Insert}
 use Rattle.flit_model.specs.declared.calls.Item.{Item}
 use Rattle.flit_model.specs.declared.calls.Item.TheVariants.{Call}
@@ -20,7 +21,7 @@ list_layout rows slots = record {
   rows = rows;
   slots = slots;
   workers = 1;
-  limit = 2147483647;
+  limit = GREATEST_VERSION;
   values = false;
 }
 
@@ -30,7 +31,7 @@ list_head rows = record { layout = list_layout rows (words_of (list_layout rows 
 
 -- what keys may be
 abbrev pub AreKeys : List ℕ → Type 0
-AreKeys keys = AllByRecursion (λ key. key ≤ 4294967292) keys
+AreKeys keys = AllByRecursion (λ key. key ≤ GREATEST_KEY) keys
 
 -- an insert of version 1
 abbrev pub insert_of : ℕ → Item

@@ -2,6 +2,7 @@
 use Rattle.std.specs.Prelude.{◌≡◌, ℕ, ◌<◌, ◌≤◌, true, false, List, map}
 use Rattle.flit_words.specs.declared.layouts.Layout.{Layout}
 use Rattle.flit_words.specs.Layouts.{words_of}
+use Rattle.flit_words.specs.declared.limits.TheConstants.{GREATEST_KEY, GREATEST_VALUE}
 use Rattle.flit_model.specs.declared.calls.Call.{Call}
 use Rattle.flit_model.specs.declared.calls.Call.TheVariants as call
 use Rattle.flit_model.specs.declared.calls.Item.{Item}
@@ -10,10 +11,10 @@ use Rattle.flit_trace.specs.Contents.{ItemLine}
 
 -- the key and the value are within their limits; without values an insert has 0, and there is no get
 abbrev pub IsRightCall : Layout → Call → Type 0
-IsRightCall l (call.Insert key value) = (key ≤ 4294967292) × (value ≤ 4294967295) × (l.values ≡ false → value ≡ 0)
-IsRightCall l (call.Remove key) = key ≤ 4294967292
-IsRightCall l (call.Contains key) = key ≤ 4294967292
-IsRightCall l (call.Get key) = (key ≤ 4294967292) × (l.values ≡ true)
+IsRightCall l (call.Insert key value) = (key ≤ GREATEST_KEY) × (value ≤ GREATEST_VALUE) × (l.values ≡ false → value ≡ 0)
+IsRightCall l (call.Remove key) = key ≤ GREATEST_KEY
+IsRightCall l (call.Contains key) = key ≤ GREATEST_KEY
+IsRightCall l (call.Get key) = (key ≤ GREATEST_KEY) × (l.values ≡ true)
 
 -- the word of a write-back is one of the layout's
 abbrev pub IsRightItem : Layout → Item → Type 0

@@ -1,16 +1,13 @@
 -- The start image.
-use Rattle.std.specs.Prelude.{◌≡◌, ℕ, true, Option, Some, None, List}
+use Rattle.std.specs.Prelude.{ℕ, true, Option, Some, None, List}
 use Rattle.flit_words.specs.declared.layouts.Layout.{Layout}
-use Rattle.flit_image.specs.declared.images.Image.{Image}
-use Rattle.flit_image.specs.Images.{IsWhole}
+use Rattle.flit_model.specs.declared.found.Image.{Image}
+use Rattle.flit_model.specs.Recovery.{IsWhole, IsImageOf}
 
 -- an image with values of the layout's structure and rows
 pub record IsStartOf (l : Layout) (image : Image) : Type 0 where
   pub whole : IsWhole image
-  pub valued : image.values ≡ true
-  pub kind : image.kind ≡ l.kind
-  pub buckets : image.buckets ≡ l.buckets
-  pub rows : image.rows ≡ l.rows
+  pub shape : IsImageOf (record l { values = true }) image
 
 abbrev pub words_in : Option Image → Option (List ℕ)
 words_in None = None

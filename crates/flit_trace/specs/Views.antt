@@ -1,6 +1,7 @@
 -- What a trace's fields show.
 use Rattle.std.specs.Prelude.{◌≡◌, ℕ, ◌≤◌, Bool, true, false, List, [], map, length, IfSome}
 use Rattle.flit_words.specs.Layouts.{Accepted}
+use Rattle.flit_words.specs.declared.limits.TheConstants.{MOST_CALLS, MOST_WORKERS}
 use Rattle.flit_model.specs.declared.calls.Ahead.{Ahead}
 use Rattle.flit_model.specs.declared.calls.Ahead.TheVariants as ahead
 use Rattle.flit_trace.specs.declared.traces.Trace.TheInside.{Inside}
@@ -34,7 +35,7 @@ seen_of t = record {
 -- what is so of each trace that was read
 pub record IsTraceInside (t : Inside) : Type 0 where
   pub accepted : Accepted t.head.layout
-  pub calls : t.calls ≤ 1048576
-  pub scripts : length t.scripts.items ≡ 64
+  pub calls : t.calls ≤ MOST_CALLS
+  pub scripts : length t.scripts.items ≡ MOST_WORKERS
   pub names : Names t.ahead (names_all t.ahead) (named t.ahead)
   pub start : IfSome t.start (IsStartOf t.head.layout)

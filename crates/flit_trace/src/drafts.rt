@@ -1,6 +1,6 @@
 use crate::heads::{Head, Place};
 use crate::stages::Stage;
-use flit_words::{Kind, Layout};
+use flit_words::{GREATEST_VERSION, Kind, Layout};
 
 /// What the lines so far have said. What wasn't said yet has its default, or its least number.
 #[derive(Clone, Copy, Debug)]
@@ -14,7 +14,7 @@ pub(crate) struct Draft {
     pub start_values: bool,
     /// In the start block the words below this one have had their turn.
     pub told: u32,
-    /// The call and evict lines, at most 1048576.
+    /// The call and evict lines, at most `MOST_CALLS`.
     pub lines: u32,
     /// The call lines among them.
     pub calls: u32,
@@ -25,6 +25,7 @@ pub(crate) struct Draft {
 impl Draft {
     ghost use Rattle.std.specs.Prelude.{◌≡◌, ◌≤◌, is_some};
     ghost use Rattle.flit_words.specs.Layouts.{Accepted};
+    ghost use Rattle.flit_words.specs.declared.limits.TheConstants.{MOST_WORKERS};
     ghost use Rattle.flit_trace.specs.Drafts.{blank, start_layout, stop_of, IsSound};
     ghost use Rattle.flit_trace.specs.Contents.{head_of};
 
@@ -41,7 +42,7 @@ impl Draft {
                 rows: 1,
                 slots: 0,
                 workers: 1,
-                limit: 2147483647,
+                limit: GREATEST_VERSION,
                 values: false,
             },
             place: Place::Adjacent,
@@ -87,7 +88,7 @@ impl Draft {
 
     /// Whether a stop point was given to this worker, from 1.
     pub fn has_stop(&self, worker: u64) -> bool
-        requires { (1 ≤ worker) × (worker ≤ 64) }
+        requires { (1 ≤ worker) × (worker ≤ MOST_WORKERS) }
         ensures { result ≡ is_some (stop_of self.now.stops worker) }
     {
         self.stops[worker as usize - 1].is_some()

@@ -29,7 +29,8 @@ impl Entry {
     pub fn of(line: u32, action: Action, subject: u64, value: u64) -> Entry
         requires subject_below { subject < 2 ^ 32 }
         requires value_below { value < 2 ^ 32 }
-        ensures { result ≡ record { line = line; action = action; subject = subject; value = value } }
+        ensures { result
+            ≡ record { line = line; action = action; subject = subject; value = value } }
     {
         Entry {
             line,

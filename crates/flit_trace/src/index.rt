@@ -4,10 +4,10 @@ ghost use Rattle.flit_trace.specs.Contents.{filled, value_or_0};
 
 use crate::entries::{Action, Entry};
 use crate::sentences::Sentence;
-use flit_words::Layout;
+use flit_words::{Layout, MOST_WORKERS};
 use std::alloc::{AllocError, Global};
 
-const MOST_WORKERS: usize = 64;
+const SCRIPTS: usize = MOST_WORKERS as usize;
 
 /// What the lines so far tell beside the draft.
 #[derive(Debug, Drop)]
@@ -24,11 +24,12 @@ pub(crate) struct Index {
 
 /// An empty script for each worker.
 fn empty_scripts(alloc: Global) -> Result<Vec<Vec<Entry>>, AllocError>
-    ensures whole { IfOk result (λ scripts. length scripts.items ≡ 64) }
-    ensures empty { IfOk result (λ scripts. AllByRecursion (λ script. script ≡ []) (map (λ script. script.items) scripts.items)) }
+    ensures whole { IfOk result (λ scripts. length scripts.items ≡ MOST_WORKERS) }
+    ensures empty { IfOk result (λ scripts. AllByRecursion (λ script. script ≡ [])
+        (map (λ script. script.items) scripts.items)) }
 {
-    let mut scripts = Vec::with_capacity(alloc, MOST_WORKERS)?;
-    for _worker in 0..MOST_WORKERS {
+    let mut scripts = Vec::with_capacity(alloc, SCRIPTS)?;
+    for _worker in 0..SCRIPTS {
         scripts.push(Vec::new(alloc))?;
     }
     Ok(scripts)
@@ -46,7 +47,8 @@ fn fill(layout: &Layout, words: &mut Vec<u64>, until: u32) -> Result<(), AllocEr
 
 /// Gives back the room that growing left in each script.
 fn trim_scripts(scripts: &mut Vec<Vec<Entry>>)
-    ensures { map (λ script. script.items) scripts.new.items ≡ map (λ script. script.items) scripts.old.items }
+    ensures { map (λ script. script.items) scripts.new.items
+        ≡ map (λ script. script.items) scripts.old.items }
 {
     for place in 0..scripts.len() {
         let script = &mut scripts[place];
@@ -67,13 +69,13 @@ fn value_or_0(value: Option<u64>) -> u64
 impl Index {
     ghost use Rattle.std.specs.Prelude.{◌≡◌, ◌≤◌, ◌^◌, ◌<◌, length, OnOk, IfOk};
     ghost use Rattle.flit_words.specs.Layouts.{Accepted, words_of};
-    ghost use Rattle.flit_trace.specs.Contents.{Told, nothing, with_item, told_with};
+    ghost use Rattle.flit_trace.specs.Contents.{Contents, nothing, with_item, told_with};
     ghost use Rattle.flit_trace.specs.Entries.{item_of};
     ghost use Rattle.flit_trace.specs.Index.{IsIndexOf, HasNumbers};
 
     /// The index of no lines.
     pub fn new(alloc: Global) -> Result<Index, AllocError>
-        ensures whole { IfOk result (λ x. length x.scripts.items ≡ 64) }
+        ensures whole { IfOk result (λ x. length x.scripts.items ≡ MOST_WORKERS) }
         ensures empty { IfOk result (λ x. IsIndexOf x nothing) }
     {
         Ok(Index {
@@ -88,10 +90,11 @@ impl Index {
     /// Puts a line behind those of its worker.
     fn push(&mut self, worker: u64, entry: Entry) -> Result<(), AllocError>
         requires least { 1 ≤ worker }
-        requires most { worker ≤ 64 }
-        requires whole { length self.old.scripts.items ≡ 64 }
-        ensures whole { OnOk result (length self.new.scripts.items ≡ 64) }
-        ensures pushes { OnOk result ((t : Told) → IsIndexOf self.old t → IsIndexOf self.new (with_item t entry.line worker (item_of entry))) }
+        requires most { worker ≤ MOST_WORKERS }
+        requires whole { length self.old.scripts.items ≡ MOST_WORKERS }
+        ensures whole { OnOk result (length self.new.scripts.items ≡ MOST_WORKERS) }
+        ensures pushes { OnOk result ((t : Contents) → IsIndexOf self.old t →
+            IsIndexOf self.new (with_item t entry.line worker (item_of entry))) }
     {
         let script = &mut self.scripts[worker as usize - 1];
         script.push(entry)?;
@@ -101,7 +104,7 @@ impl Index {
     /// Gives back the room that growing left.
     pub fn trim(&mut self)
         ensures whole { length self.new.scripts.items ≡ length self.old.scripts.items }
-        ensures same { (t : Told) → IsIndexOf self.old t → IsIndexOf self.new t }
+        ensures same { (t : Contents) → IsIndexOf self.old t → IsIndexOf self.new t }
     {
         trim_scripts(&mut self.scripts);
         self.turns.shrink_to_fit();
@@ -113,9 +116,10 @@ impl Index {
     pub fn tell(&mut self, layout: &Layout, line: u32, sentence: Sentence) -> Result<(), AllocError>
         requires accepted { Accepted layout.now }
         requires numbers { HasNumbers sentence }
-        requires whole { length self.old.scripts.items ≡ 64 }
-        ensures whole { OnOk result (length self.new.scripts.items ≡ 64) }
-        ensures tells { OnOk result ((t : Told) → IsIndexOf self.old t → IsIndexOf self.new (told_with layout.now line sentence t)) }
+        requires whole { length self.old.scripts.items ≡ MOST_WORKERS }
+        ensures whole { OnOk result (length self.new.scripts.items ≡ MOST_WORKERS) }
+        ensures tells { OnOk result ((t : Contents) → IsIndexOf self.old t →
+            IsIndexOf self.new (told_with layout.now line sentence t)) }
     {
         match sentence {
             Sentence::Insert { worker, key, value } => {

@@ -1,6 +1,7 @@
 ghost use Rattle.std.specs.Prelude.{◌≡◌, ◌≤◌, length, IfOk, IfErr, OnOk};
 ghost use Rattle.flit_words.specs.Texts.{lines_of};
-ghost use Rattle.flit_trace.specs.Contents.{Told};
+ghost use Rattle.flit_words.specs.declared.limits.TheConstants.{MOST_WORKERS};
+ghost use Rattle.flit_trace.specs.Contents.{Contents};
 ghost use Rattle.flit_trace.specs.Drafts.{IsSound};
 ghost use Rattle.flit_trace.specs.Grammar.{is_silent, IsErrorOf};
 ghost use Rattle.flit_trace.specs.SeenTraces.{IsReadAs};
@@ -11,10 +12,8 @@ use crate::faults::{Bound, TraceError};
 use crate::index::Index;
 use crate::sentences::sentence_of;
 use crate::traces::Trace;
-use flit_words::first_line;
+use flit_words::{MOST_BYTES, first_line};
 use std::alloc::Global;
-
-const MOST_BYTES: usize = 268435456;
 
 /// Whether a line says nothing.
 fn says_nothing(line: &[u8]) -> bool
@@ -34,10 +33,11 @@ fn take_line(
     line: &[u8],
 ) -> Result<(), TraceError>
     requires sound { IsSound draft.old }
-    requires whole { length index.old.scripts.items ≡ 64 }
+    requires whole { length index.old.scripts.items ≡ MOST_WORKERS }
     ensures sound { OnOk result (IsSound draft.new) }
-    ensures whole { OnOk result (length index.new.scripts.items ≡ 64) }
-    ensures leads { OnOk result ((t : Told) → LeadsTo number draft.old index.old t line.now draft.new index.new) }
+    ensures whole { OnOk result (length index.new.scripts.items ≡ MOST_WORKERS) }
+    ensures leads { OnOk result ((t : Contents) →
+        LeadsTo number draft.old index.old t line.now draft.new index.new) }
     ensures err { IfErr result (IsLineError number draft.old line.now) }
 {
     if !line.is_ascii() || draft.stage.is_ended() {
@@ -57,9 +57,9 @@ fn take_line(
 
 /// Reads all lines up to `end`.
 fn read_lines(alloc: Global, bytes: &[u8]) -> Result<(Draft, Index), TraceError>
-    requires { length bytes.now ≤ 268435456 }
+    requires { length bytes.now ≤ MOST_BYTES }
     ensures read { IfOk result (λ p. AreRead (lines_of bytes.now) p.0 p.1) }
-    ensures whole { IfOk result (λ p. length p.1.scripts.items ≡ 64) }
+    ensures whole { IfOk result (λ p. length p.1.scripts.items ≡ MOST_WORKERS) }
     ensures err { IfErr result (AreFaulty (lines_of bytes.now)) }
 {
     let mut draft = Draft::blank();
@@ -83,7 +83,7 @@ fn read_lines(alloc: Global, bytes: &[u8]) -> Result<(Draft, Index), TraceError>
 /// An error other than `NoMemory` is the first fault of the text. `BadLine` names the first line, from 1, that can't
 /// stand where it stands, and `Limit` the first that could but for a number past a limit, whichever is earlier.
 /// `NoEnd` comes where all lines are right and `end` is missing, with the number of lines plus one. A text of more
-/// than 268435456 bytes gives `Limit` with line 0. `NoMemory` comes where there is none for what is kept.
+/// than `MOST_BYTES` bytes gives `Limit` with line 0. `NoMemory` comes where there is none for what is kept.
 pub fn read_trace<'a>(alloc: Global, bytes: &'a [u8]) -> Result<Trace<'a>, TraceError>
     ensures ok { IfOk result (IsReadAs bytes.now) }
     ensures err { IfErr result (IsErrorOf bytes.now) }

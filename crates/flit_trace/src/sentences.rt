@@ -131,7 +131,8 @@ fn number_behind(line: &[u8], words: &[u8]) -> Option<u64>
 fn two_numbers_of(text: &[u8]) -> Option<(u64, u64)>
     ensures some { IfSome result (λ p. text.now ≡ two_numbers p.0 p.1) }
     ensures small { IfSome result (λ p. (p.0 < 10 ^ 10) × (p.1 < 10 ^ 10)) }
-    ensures none { IfNone result ((m n : ℕ) → m < 10 ^ 10 → n < 10 ^ 10 → text.now ≢ two_numbers m n) }
+    ensures none { IfNone result ((m n : ℕ) → m < 10 ^ 10 → n < 10 ^ 10 →
+        text.now ≢ two_numbers m n) }
 {
     let (first, second) = cut_at(text, b' ')?;
     Some((number_of(first)?, number_of(second)?))
@@ -141,7 +142,8 @@ fn two_numbers_of(text: &[u8]) -> Option<(u64, u64)>
 fn two_numbers_behind(line: &[u8], words: &[u8]) -> Option<(u64, u64)>
     ensures some { IfSome result (λ p. line.now ≡ words.now ++ two_numbers p.0 p.1) }
     ensures small { IfSome result (λ p. (p.0 < 10 ^ 10) × (p.1 < 10 ^ 10)) }
-    ensures none { IfNone result ((m n : ℕ) → m < 10 ^ 10 → n < 10 ^ 10 → line.now ≢ words.now ++ two_numbers m n) }
+    ensures none { IfNone result ((m n : ℕ) → m < 10 ^ 10 → n < 10 ^ 10 →
+        line.now ≢ words.now ++ two_numbers m n) }
 {
     two_numbers_of(behind(line, words)?)
 }
@@ -149,7 +151,8 @@ fn two_numbers_behind(line: &[u8], words: &[u8]) -> Option<(u64, u64)>
 /// What a structure line says.
 fn structure_of(line: &[u8]) -> Option<Sentence>
     ensures some { IfSome result (λ s. Says line.now s) }
-    ensures none { IfNone result ((kind : Kind) (buckets : ℕ) → ¬ Says line.now (Structure kind buckets)) }
+    ensures none { IfNone result ((kind : Kind) (buckets : ℕ) →
+        ¬ Says line.now (Structure kind buckets)) }
 {
     if line == LIST {
         return Some(Sentence::Structure {

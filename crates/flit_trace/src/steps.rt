@@ -8,23 +8,14 @@ use crate::faults::{Bound, TraceError};
 use crate::heads::Place;
 use crate::sentences::Sentence;
 use crate::stages::Stage;
-use flit_words::Kind;
+use flit_words::{
+    GREATEST_KEY, GREATEST_VALUE, GREATEST_VERSION, Kind, MOST_BUCKETS, MOST_CALLS,
+    MOST_HASHED_SLOTS, MOST_ROWS, MOST_WORKERS,
+};
 
-const MOST_BUCKETS: u32 = 65536;
+const MOST_KEY: u64 = GREATEST_KEY as u64;
 
-const MOST_SLOTS: u32 = 1048576;
-
-const MOST_ROWS: u32 = 1048575;
-
-const MOST_WORKERS: u32 = 64;
-
-const MOST_VERSION: u32 = 2147483647;
-
-const MOST_LINES: u32 = 1048576;
-
-const MOST_KEY: u64 = 4294967292;
-
-const MOST_VALUE: u64 = 4294967295;
+const MOST_VALUE: u64 = GREATEST_VALUE as u64;
 
 /// A number from 1 up to its limit, in a line that may stand where it stands.
 fn up_to(
@@ -35,8 +26,10 @@ fn up_to(
     limit: Bound,
 ) -> Result<u32, TraceError>
     ensures ok { IfOk result (λ n. (n ≡ number) × (1 ≤ n) × (n ≤ most)) }
-    ensures goes { IfOk result (λ n. (d : Draft) → only_if may_stand (up_to number most limit d) ≡ Goes d) }
-    ensures err { IfErr result (λ e. (d : Draft) → IsErrorFor line (only_if may_stand (up_to number most limit d)) e) }
+    ensures goes { IfOk result (λ n. (d : Draft) →
+        only_if may_stand (up_to number most limit d) ≡ Goes d) }
+    ensures err { IfErr result (λ e. (d : Draft) →
+        IsErrorFor line (only_if may_stand (up_to number most limit d)) e) }
 {
     if !may_stand || number == 0 {
         return Err(TraceError::BadLine { line });
@@ -50,8 +43,10 @@ fn up_to(
 /// The number of buckets of a structure line.
 fn buckets_of(line: u32, may_stand: bool, kind: Kind, buckets: u64) -> Result<u32, TraceError>
     ensures ok { IfOk result (λ n. (least_buckets kind ≤ n) × (n ≤ most_buckets kind)) }
-    ensures goes { IfOk result (λ n. (d : Draft) → only_if may_stand (buckets_verdict d kind buckets) ≡ Goes (with_structure d kind n)) }
-    ensures err { IfErr result (λ e. (d : Draft) → IsErrorFor line (only_if may_stand (buckets_verdict d kind buckets)) e) }
+    ensures goes { IfOk result (λ n. (d : Draft) →
+        only_if may_stand (buckets_verdict d kind buckets) ≡ Goes (with_structure d kind n)) }
+    ensures err { IfErr result (λ e. (d : Draft) →
+        IsErrorFor line (only_if may_stand (buckets_verdict d kind buckets)) e) }
 {
     let fixed = match kind {
         Kind::List => 1,
@@ -107,7 +102,7 @@ impl Draft {
         ensures err { IfErr result (IsErrorFor line (hashed_verdict self.old slots)) }
     {
         let may_stand = self.stage.takes_place();
-        let slots = up_to(line, may_stand, slots, MOST_SLOTS, Bound::Slots)?;
+        let slots = up_to(line, may_stand, slots, MOST_HASHED_SLOTS, Bound::Slots)?;
         self.stage = Stage::AtRows;
         self.place = Place::Hashed(slots);
         Ok(())
@@ -138,7 +133,7 @@ impl Draft {
         ensures err { IfErr result (IsErrorFor line (versions_verdict self.old limit)) }
     {
         let may_stand = self.stage.takes_versions();
-        self.layout.limit = up_to(line, may_stand, limit, MOST_VERSION, Bound::Versions)?;
+        self.layout.limit = up_to(line, may_stand, limit, GREATEST_VERSION, Bound::Versions)?;
         self.stage = Stage::AtStart;
         Ok(())
     }
@@ -217,7 +212,7 @@ impl Draft {
         if !(self.stage.takes_body() && self.is_worker(worker) && right) {
             return Err(TraceError::BadLine { line });
         }
-        if self.lines >= MOST_LINES {
+        if self.lines >= MOST_CALLS {
             return Err(TraceError::Limit {
                 line,
                 limit: Bound::Calls,
@@ -245,8 +240,11 @@ impl Draft {
 
     /// A line of the body that changes nothing but the stage, where the test holds.
     fn take_body(&mut self, line: u32, right: bool, next: Stage) -> Result<(), TraceError>
-        ensures ok { OnOk result (only_if (takes_body self.old.stage && right) (Goes (record self.old { stage = next })) ≡ Goes self.new) }
-        ensures err { IfErr result (IsErrorFor line (only_if (takes_body self.old.stage && right) (Goes (record self.old { stage = next })))) }
+        ensures ok { OnOk result (only_if (takes_body self.old.stage && right)
+            (Goes (record self.old { stage = next })) ≡ Goes self.new) }
+        ensures err { IfErr result (IsErrorFor line
+            (only_if (takes_body self.old.stage && right)
+            (Goes (record self.old { stage = next })))) }
     {
         if self.stage.takes_body() && right {
             self.stage = next;
@@ -259,7 +257,8 @@ impl Draft {
     /// A turn of a worker.
     fn take_turn(&mut self, line: u32, worker: u64, events: u64) -> Result<(), TraceError>
         ensures ok { OnOk result (verdict self.old (Sentence.Turn worker events) ≡ Goes self.new) }
-        ensures err { IfErr result (IsErrorFor line (verdict self.old (Sentence.Turn worker events))) }
+        ensures err { IfErr result (IsErrorFor line
+            (verdict self.old (Sentence.Turn worker events))) }
     {
         let right = self.is_worker(worker) && 1 <= events;
         self.take_body(line, right, Stage::InBody)

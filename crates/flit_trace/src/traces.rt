@@ -1,5 +1,6 @@
 ghost use Rattle.std.specs.Prelude.{◌≡◌, true, [], length, IfSome, if◌then◌else◌};
 ghost use Rattle.flit_words.specs.Layouts.{Accepted, words_of};
+ghost use Rattle.flit_words.specs.declared.limits.TheConstants.{MOST_CALLS};
 ghost use Rattle.flit_trace.specs.Starts.{IsStartOf, words_in};
 ghost use Rattle.flit_trace.specs.Ahead.{Names};
 
@@ -74,7 +75,7 @@ fn start_of(draft: &Draft, words: Vec<u64>) -> Option<Image>
 }
 
 impl<'a> Trace<'a> {
-    ghost use Rattle.flit_trace.specs.Contents.{Told, content_of};
+    ghost use Rattle.flit_trace.specs.Contents.{Contents, content_of};
     ghost use Rattle.flit_trace.specs.Counts.{IsCounted};
     ghost use Rattle.flit_trace.specs.Index.{IsIndexOf};
     ghost use Rattle.flit_trace.specs.Readings.{IsReady};
@@ -83,7 +84,8 @@ impl<'a> Trace<'a> {
     /// The trace of a draft and an index of all lines.
     pub(crate) fn of(draft: &Draft, index: Index) -> Trace<'a>
         requires { IsReady draft.now index }
-        ensures { (t : Told) → IsIndexOf index t → IsCounted draft.now t.items → Shows result (content_of draft.now t) }
+        ensures { (t : Contents) → IsIndexOf index t → IsCounted draft.now t.items →
+            Shows result (content_of draft.now t) }
     {
         let Index {
             scripts,
@@ -121,7 +123,7 @@ impl Trace<'_> {
     /// How many calls the trace has. Write-backs aren't counted.
     pub fn calls(&self) -> u32
         ensures is { result ≡ self.now.calls }
-        ensures few { result ≤ 1048576 }
+        ensures few { result ≤ MOST_CALLS }
     {
         self.calls
     }
@@ -158,7 +160,8 @@ impl Trace<'_> {
 
     /// The start image, which has values. None comes where there is no start block.
     pub fn start(&self) -> Option<&Image>
-        ensures words { MatchOption result (self.now.start ≡ None) (λ image. self.now.start ≡ Some image.now.words.items) }
+        ensures words { MatchOption result (self.now.start ≡ None)
+            (λ image. self.now.start ≡ Some image.now.words.items) }
         ensures is { IfSome result (λ image. IsStartOf self.now.head.layout image.now) }
     {
         self.start.as_ref()

@@ -7,7 +7,8 @@ use std::process::Abort;
 use std::test::Fail;
 
 fn has_no_tag(words: &[u64]) -> bool
-    ensures { IsTrue result → (w : ℕ) → w < length words.now → is_tagged (slice_index words.now w) ≡ false }
+    ensures { IsTrue result → (w : ℕ) → w < length words.now →
+        is_tagged (slice_index words.now w) ≡ false }
 {
     for word in words {
         if Word::unpack(*word).tagged {

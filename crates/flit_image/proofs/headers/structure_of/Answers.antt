@@ -15,4 +15,8 @@ returns-then-buckets-eq0-clause-none c =
     let no_list : c.args.line.now ≢ codes "structure list" = not_from_Decides _ (slice_eq-Decides Decides-eqb _ _ _ c.eq.ensures) c.if-eq.false in
     let no_tree : c.args.line.now ≢ codes "structure tree" = not_from_Decides _ (slice_eq-Decides Decides-eqb _ _ _ c.eq-2.ensures) c.if-eq-2.false in
     no_structure c.args.line.now no_list no_tree (λ n least most is.
-    omega (arith, same_number (codes "structure hash ") c.args.line.now c.in_ok-buckets.buckets n (omega arith) (omega arith) c.in_ok-buckets.ensures.some.0 is))
+    omega (
+      arith,
+      same_number (codes "structure hash ") c.args.line.now c.in_ok-buckets.buckets n (omega arith) (omega arith) c.in_ok-buckets.ensures.some.0
+          is,
+    ))

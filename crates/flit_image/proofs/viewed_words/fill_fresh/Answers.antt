@@ -14,6 +14,7 @@ loop-word-preserved c =
     let small : raw < 2 ^ 64 = grind arith in
     record {
       filled = grind arith;
-      lines = HaveLines-more l words c.push.new.self.items c.loop-word.lines.items c.push-in-loop-word.new.self.items raw _ c.in_ok-push.ensures.items c.in_ok-push-2.ensures.items c.loop-word.invariant.lines small (λ told. absurd (told fresh));
+      lines = HaveLines-more l words c.push.new.self.items c.loop-word.lines.items c.push-in-loop-word.new.self.items raw _ c.in_ok-push.ensures.items
+          c.in_ok-push-2.ensures.items c.loop-word.invariant.lines small (λ told. absurd (told fresh));
       same = lines_so_far-fresh l words c.push.new.self.items raw c.in_ok-push.ensures.items fresh ∙ c.loop-word.invariant.same;
     }

@@ -16,7 +16,12 @@ lines-preserved c =
     record {
       within = omega (arith, begins.good.within);
       few = omega (arith, begins.good.order);
-      lent = HaveLines-told l c.fill_fresh.new.words.items c.push.new.self.items c.fill_fresh.new.lines.items c.push-in-Some.new.self.items c.len.result found.word found.raw c.lines.rest.now found.rest.now found.line c.in_ok-push.ensures.items c.in_ok-push-2.ensures.items c.in_ok-fill_fresh.ensures.lines filled begins;
-      so_far = lines_so_far-begins l c.args.body.now c.lines.rest.now found.line.now found.rest.now c.lines.words.items c.fill_fresh.new.words.items c.push.new.self.items c.len.result found.word found.raw c.lines.invariant.so_far begins filled c.in_ok-fill_fresh.ensures.same c.in_ok-push.ensures.items;
-      faults = λ e later. c.lines.invariant.faults e (fault_behind l c.lines.line (c.lines.line + 1) c.len.result (length c.lines.words.items) (length c.push.new.self.items) c.lines.rest.now found.line.now found.rest.now found.word found.raw e (add-one c.lines.line) order above begins later);
+      lent = HaveLines-told l c.fill_fresh.new.words.items c.push.new.self.items c.fill_fresh.new.lines.items c.push-in-Some.new.self.items c.len.result
+          found.word found.raw c.lines.rest.now found.rest.now found.line c.in_ok-push.ensures.items c.in_ok-push-2.ensures.items
+          c.in_ok-fill_fresh.ensures.lines filled begins;
+      so_far = lines_so_far-begins l c.args.body.now c.lines.rest.now found.line.now found.rest.now c.lines.words.items c.fill_fresh.new.words.items
+          c.push.new.self.items c.len.result found.word found.raw c.lines.invariant.so_far begins filled c.in_ok-fill_fresh.ensures.same
+          c.in_ok-push.ensures.items;
+      faults = λ e later. c.lines.invariant.faults e (fault_behind l c.lines.line (c.lines.line + 1) c.len.result (length c.lines.words.items)
+          (length c.push.new.self.items) c.lines.rest.now found.line.now found.rest.now found.word found.raw e (add-one c.lines.line) order above begins later);
     }

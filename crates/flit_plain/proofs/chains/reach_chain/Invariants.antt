@@ -1,6 +1,5 @@
-use Rattle.std.proofs.Common.{◌≡◌, ℕ, ◌-◌, ◌<◌, ◌≤◌, ◌++◌, List, length}
+use Rattle.std.proofs.Common.{ℕ, ◌-◌, ◌<◌, ◌≤◌, List, length}
 use Rattle.flit_model.specs.Lists.{IsLawfulChain}
-use Rattle.flit_plain.specs.Reaching.{Adds}
 use Rattle.flit_plain.proofs.ChainWalks.{IsReaching}
 use Rattle.flit_plain.proofs.chains.reach_chain.Given as goal
 

@@ -7,7 +7,8 @@ use Rattle.flit_plain.proofs.images.is_lawful_list.Goals as goal
 pub returns-then-not-is_lawful_chain : goal.returns-then-not-is_lawful_chain
 returns-then-not-is_lawful_chain c = (
   (λ e. absurd (false≢true e)),
-  (λ w. absurd (both_ways c.is_lawful_chain.result c.if-not-is_lawful_chain.true (c.is_lawful_chain.ensures.1 (list_chain c.args.layout.now c.args.words.now w.0 w.1 c.loop-head.head c.loop-head-test.true)))),
+  (λ w. absurd (both_ways c.is_lawful_chain.result c.if-not-is_lawful_chain.true
+      (c.is_lawful_chain.ensures.1 (list_chain c.args.layout.now c.args.words.now w.0 w.1 c.loop-head.head c.loop-head-test.true)))),
 )
 
 pub loop-head-preserved : goal.loop-head-preserved

@@ -16,7 +16,9 @@ returns-clause-found c =
         lawful = lawful.1;
         map = refl;
         free_rows = c.in_ok-free.ensures
-            ∙ ap (λ rows. filter (is_absent rows) (range_with_len (first_row_of c.args.layout.now.kind) c.args.layout.now.rows)) (c.deref-2.ensures.value ∙ c.in_ok-reached.ensures.rows lawful.0 lawful.1);
+            ∙ ap (λ rows. filter (is_absent rows) (range_with_len (first_row_of c.args.layout.now.kind) c.args.layout.now.rows))
+            (c.deref-2.ensures.value ∙ c.in_ok-reached.ensures.rows lawful.0 lawful.1);
       };
-      pairs = sym (c.in_ok-pairs.ensures ∙ ap (λ ps. entries (from_entries {R = nat_cmp} ps)) c.deref.ensures.value ∙ ap entries (c.in_ok-reached.ensures.pairs lawful.0 lawful.1));
+      pairs = sym (c.in_ok-pairs.ensures ∙ ap (λ ps. entries (from_entries {R = nat_cmp} ps)) c.deref.ensures.value
+          ∙ ap entries (c.in_ok-reached.ensures.pairs lawful.0 lawful.1));
     }

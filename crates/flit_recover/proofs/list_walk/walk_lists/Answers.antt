@@ -15,13 +15,15 @@ returns-in_err-walk_chain-clause-damage c =
     let p = err_from_is_err_and c.from_residual-in_err-walk_chain.result c.from_residual-in_err-walk_chain.ensures.1 in
     rw (p.1, p.2) (λ some.
     let w = c.in_err-walk_chain.ensures.damage some in
-    swept_to_damage c.args.layout.now c.args.words.now c.loop-head.head c.loop-head.reached.rows.items w.0 _ c.loop-head-test.true c.loop-head.invariant.swept w.1)
+    swept_to_damage c.args.layout.now c.args.words.now c.loop-head.head c.loop-head.reached.rows.items w.0 _ c.loop-head-test.true c.loop-head.invariant.swept
+    w.1)
 
 pub loop-head-preserved : goal.loop-head-preserved
 loop-head-preserved c =
     let w = c.in_ok-walk_chain.ensures.rows in
     record {
-      swept = swept_more c.args.layout.now c.args.words.now c.loop-head.head (c.loop-head.head + 1) c.loop-head.reached.rows.items c.walk_chain.new.reached.rows.items w.0 refl c.loop-head.invariant.swept w.1 w.2;
+      swept = swept_more c.args.layout.now c.args.words.now c.loop-head.head (c.loop-head.head + 1) c.loop-head.reached.rows.items
+          c.walk_chain.new.reached.rows.items w.0 refl c.loop-head.invariant.swept w.1 w.2;
       marks = c.in_ok-walk_chain.ensures.marks;
     }
 

@@ -13,4 +13,5 @@ returns-clause-recovery c =
     let same : IsTreeReached c.args.layout.now c.args.words.now c.in_ok-found.found.reached.rows.items c.as_slice.result.now =
     subst (IsTreeReached c.args.layout.now c.args.words.now c.in_ok-found.found.reached.rows.items) (sym pairs) found
     in
-    if_tree_recovery l image c.requires.grown c.in_ok-found.found.reached.rows.items c.as_slice.result.now same c.assemble.result c.assemble.ensures.keys c.assemble.ensures.values c.assemble.ensures.free
+    if_tree_recovery l image c.requires.grown c.in_ok-found.found.reached.rows.items c.as_slice.result.now same c.assemble.result c.assemble.ensures.keys
+    c.assemble.ensures.values c.assemble.ensures.free

@@ -1,9 +1,12 @@
-use Rattle.std.proofs.Common.{◌≢◌, IfErr, subst}
-use Rattle.flit_recover.specs.declared.found.Damage.TheVariants.{NoMemory}
-use Rattle.flit_recover.specs.Damages.{IsFirstDamage}
+use Rattle.std.proofs.lemmas.Result.{err_from_is_err_and}
 use Rattle.flit_recover.proofs.recovery.recover_view.Goals as goal
 
-pub returns-clause-damage : goal.returns-clause-damage
-returns-clause-damage c =
-    subst (λ layout. IfErr c.recover_words.result (λ d. d ≢ NoMemory → IsFirstDamage layout c.args.view.now.words d)) c.layout.ensures.is
-    (subst (λ words. IfErr c.recover_words.result (λ d. d ≢ NoMemory → IsFirstDamage c.layout.result words d)) c.words.ensures.is c.recover_words.ensures.damage)
+pub returns-clause-recovery : goal.returns-clause-recovery
+returns-clause-recovery c =
+    rw (c.within.ensures.keys, c.within.ensures.values, c.within.ensures.free)
+    (rw (c.layout-layout.ensures.is, c.words.ensures.is) at c.in_ok-holding.ensures.recovery)
+
+pub returns-in_err-holding-clause-damage : goal.returns-in_err-holding-clause-damage
+returns-in_err-holding-clause-damage c =
+    let p = err_from_is_err_and c.from_residual.result c.from_residual.ensures.1 in
+    rw (p.1, p.2) (rw (c.layout-layout.ensures.is, c.words.ensures.is) at c.in_err-holding.ensures.damage)

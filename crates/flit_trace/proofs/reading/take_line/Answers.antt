@@ -9,7 +9,9 @@ use Rattle.flit_trace.proofs.reading.take_line.Goals as goal
 pub returns-in_err-take-clause-err : goal.returns-in_err-take-clause-err
 returns-in_err-take-clause-err c =
     let p = err_from_is_err_and c.from_residual.result c.from_residual.ensures.1 in
-    rw (p.1, p.2) (verdict_error c.args.number c.args.draft.now c.args.line.now c.in-Some.sentence _ (record { ascii = c.if-not-is_ascii.ensures.cases; open_yet = sym c.if-is_ended.ensures }) (sym c.if-says_nothing.ensures) c.in-Some.ensures.some c.in_err-take.ensures.err)
+    rw (p.1, p.2) (verdict_error c.args.number c.args.draft.now c.args.line.now c.in-Some.sentence _
+    (record { ascii = c.if-not-is_ascii.ensures.cases; open_yet = sym c.if-is_ended.ensures }) (sym c.if-says_nothing.ensures) c.in-Some.ensures.some
+    c.in_err-take.ensures.err)
 
 pub tell-requires : goal.tell-requires
 tell-requires c = record {

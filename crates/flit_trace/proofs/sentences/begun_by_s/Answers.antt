@@ -4,4 +4,5 @@ use Rattle.flit_trace.proofs.sentences.begun_by_s.Goals as goal
 
 pub returns-clause-none : goal.returns-clause-none
 returns-clause-none c =
-    none_weaker c.structure_of.result (no_s c.args.line.now c.requires c.in_default.ensures.none c.in_default-number_behind.ensures.none) c.structure_of.ensures.none
+    none_weaker c.structure_of.result (no_s c.args.line.now c.requires c.in_default.ensures.none c.in_default-number_behind.ensures.none)
+    c.structure_of.ensures.none

@@ -11,8 +11,13 @@ loop-row-preserved c =
     let first = first_row_of c.args.layout.now.kind in
     let row = c.loop-row.row in
     let le : first ≤ row = c.loop-row.invariant.0 in
-    let says = mark_says (last_row_of c.args.layout.now) c.args.self.now.marks.items rows row c.index.result.now c.requires.marks (omega arith) c.index.ensures in
+    let says = mark_says (last_row_of c.args.layout.now) c.args.self.now.marks.items rows row c.index.result.now c.requires.marks (omega arith)
+    c.index.ensures in
     elim c.if-not-index.branch [
-      | then-not-index+in_ok-push w ↦ rw w.free-is (omega arith, w.in_ok-push.ensures.items ∙ ap (λ (rs : List ℕ). rs ++ row ∷ []) c.loop-row.invariant.1 ∙ sym (left_with rows first row le (says ∙ w.if-not-index.true)))
+      | then-not-index+in_ok-push w ↦ rw w.free-is (
+        omega arith,
+        w.in_ok-push.ensures.items ∙ ap (λ (rs : List ℕ). rs ++ row ∷ []) c.loop-row.invariant.1
+            ∙ sym (left_with rows first row le (says ∙ w.if-not-index.true)),
+      )
       | else-not-index w ↦ rw w.free-is (omega arith, c.loop-row.invariant.1 ∙ sym (left_without rows first row le (says ∙ w.if-not-index.false)))
     ]

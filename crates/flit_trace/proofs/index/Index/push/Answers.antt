@@ -11,7 +11,9 @@ returns-clause-pushes c = λ t keeps.
     record {
       scripts =
           rw map-set (pushed _ t.items c.args.worker c.args.entry _ c.requires.least (rw length-map (omega arith))
-          (c.in_ok-push.ensures.items ∙ ap (λ v. v.items ++ c.args.entry ∷ []) c.index_mut-script.ensures.value ∙ ap (λ (xs : List Entry). xs ++ c.args.entry ∷ []) (sym (get_or-map (λ v. v.items) c.args.self.now.scripts.items place c.index_mut-script.result.now [] within)))
+          (c.in_ok-push.ensures.items ∙ ap (λ v. v.items ++ c.args.entry ∷ []) c.index_mut-script.ensures.value
+          ∙ ap (λ (xs : List Entry). xs ++ c.args.entry ∷ []) (sym (get_or-map (λ v. v.items) c.args.self.now.scripts.items place
+          c.index_mut-script.result.now [] within)))
           keeps.scripts);
       turns = keeps.turns;
       all_ahead = keeps.all_ahead;

@@ -8,7 +8,8 @@ returns c = λ t keeps counted.
     record {
       head = c.head.ensures;
       calls = counted.calls;
-      scripts = λ worker is. seen_script _ _ (worker - 1) ∙ keeps.scripts worker is.least (omega (arith, is.most, c.requires.sound.accepted.most_worker, ap (λ (h : _). h.layout.workers) c.head.ensures));
+      scripts = λ worker is. seen_script _ _ (worker - 1) ∙ keeps.scripts worker is.least
+          (omega (arith, is.most, c.requires.sound.accepted.most_worker, ap (λ (h : _). h.layout.workers) c.head.ensures));
       stops = refl;
       turns = keeps.turns;
       all_ahead = names.all_is ∙ keeps.all_ahead;
