@@ -5,13 +5,14 @@ use Rattle.flit_model.specs.declared.events.Event.TheVariants.{ReadTag}
 use Rattle.flit_place.specs.Tags.{Place, shown, IsPlacement}
 use Rattle.flit_pv.specs.declared.queues.Noted.{Noted}
 use Rattle.flit_pv.specs.declared.hands.Hand.{Hand}
-use Rattle.flit_pv.specs.declared.confirms.Confirm.{Confirm}
+use Rattle.flit_pv.specs.Confirms.{HeldConfirm}
 use Rattle.flit_pv.specs.declared.confirms.Confirming.{Confirming}
 use Rattle.flit_pv.specs.declared.confirms.Confirming.TheVariants.{Begins, MakesRoom, Done}
 use Rattle.flit_pv.specs.Queues.{noted, persist_of, is_full, first_persist}
 use Rattle.flit_pv.specs.Hands.{with_persist, with_omitted, with_queued, with_queue}
 use Rattle.flit_pv.specs.Confirms.{confirm_started, confirm_asked, confirm_taken, confirm_room, confirm_judges}
-use Rattle.flit_event_lists.specs.EventLists.{Told, told, persists_in, IsTagRead, IsQueuedWhere}
+use Rattle.flit_pv.specs.Played.{AnsweredEvent, answered_event}
+use Rattle.flit_event_lists.specs.EventLists.{persists_in, IsTagRead, IsQueuedWhere}
 use Rattle.flit_event_lists.specs.LoadLists.{IsConfirmList}
 use Rattle.flit_event_lists.specs.Plays.{ConfirmEnds, HasConfirmedOver}
 use Rattle.flit_event_lists.proofs.PlayedLists.{Reaches, one_event, no_event, goes_on, same_events}
@@ -30,40 +31,45 @@ uncounted p slots_for is word none = go (slots_for (word + 1)) refl
         absurd (cc)
 
 module _ (p : Place) (word raw : ℕ) (after : Hand) where
-  abbrev Leaves : Confirm → Type 0
+  abbrev Leaves : HeldConfirm → Type 0
   Leaves m = HasConfirmedOver p m after
 
-  abbrev done_at : Hand → Confirm
+  abbrev done_at : Hand → HeldConfirm
   done_at h = record { hand = h; word = word; raw = raw; at = Done }
 
-  abbrev room_at : Hand → List Noted → Confirm
+  abbrev room_at : Hand → List Noted → HeldConfirm
   room_at h queue = confirm_room (record { hand = with_queue h queue; word = word; raw = raw; at = Begins }) queue
 
-  room-same : (h : Hand) (a : Confirming) (queue : List Noted) → confirm_room (record { hand = h; word = word; raw = raw; at = a }) queue ≡ confirm_room (record { hand = h; word = word; raw = raw; at = Begins }) queue
+  room-same : (h : Hand) (a : Confirming) (queue : List Noted) → confirm_room (record { hand = h; word = word; raw = raw; at = a }) queue ≡ confirm_room
+      (record { hand = h; word = word; raw = raw; at = Begins }) queue
   room-same h a [] = refl
   room-same h a (n ∷ ns) = refl
 
   confirm-takes : (h : Hand) (n : Noted) (ns : List Noted) (a : ℕ) → confirm_taken p (room_at h (n ∷ ns)) a ≡ room_at (with_persist h) ns
   confirm-takes h n ns a = room-same (with_queue (with_persist h) ns) (MakesRoom n) ns
 
-  abbrev Judged : Bool → Hand → List Told → Type 0
+  abbrev Judged : Bool → Hand → List AnsweredEvent → Type 0
   Judged b h list = (queue : List Noted) × IsQueuedWhere b h.queue (noted word (bare_of raw)) list queue × Leaves (done_at (judged_hand b h list queue))
 
-  abbrev judges_at : Bool → Hand → Confirm
+  abbrev judges_at : Bool → Hand → HeldConfirm
   judges_at b h = cond b (cond (is_full h.queue) (room_at h h.queue) (done_at (with_queued h word raw))) (done_at (with_omitted h))
 
-  confirm-judged-told : (b : Bool) (h : Hand) (list : List Told) → Reaches (confirm_asked p) (confirm_taken p) (judges_at b h) list Leaves → Judged b h list
+  confirm-judged-told : (b : Bool) (h : Hand) (list : List AnsweredEvent) → Reaches (confirm_asked p) (confirm_taken p) (judges_at b h) list Leaves →
+      Judged b h list
   confirm-judged-told b h list r =
-      judged-told (confirm_asked p) (confirm_taken p) done_at room_at word raw (λ h. refl) (λ h n ns. refl) confirm-takes (λ h. refl) Leaves (λ m e. e.0) b h list r
+      judged-told (confirm_asked p) (confirm_taken p) done_at room_at word raw (λ h. refl) (λ h n ns. refl) confirm-takes (λ h. refl) Leaves (λ m e. e.0) b h
+      list r
 
-  confirm-judged-made : (b : Bool) (h : Hand) (list : List Told) → Judged b h list → Reaches (confirm_asked p) (confirm_taken p) (judges_at b h) list Leaves
+  confirm-judged-made : (b : Bool) (h : Hand) (list : List AnsweredEvent) → Judged b h list →
+      Reaches (confirm_asked p) (confirm_taken p) (judges_at b h) list Leaves
   confirm-judged-made b h list j =
-      judged-made (confirm_asked p) (confirm_taken p) done_at room_at word raw (λ h. refl) (λ h n ns. refl) confirm-takes (λ h. refl) Leaves (λ m e. e.0) b h list j
+      judged-made (confirm_asked p) (confirm_taken p) done_at room_at word raw (λ h. refl) (λ h n ns. refl) confirm-takes (λ h. refl) Leaves (λ m e. e.0) b h
+      list j
 
   -- ---- without a slot
 
   module _ (none : p.slot word ≡ None) (bit : shown p.counted raw None ≡ is_tagged raw) where
-    abbrev begins : Hand → Confirm
+    abbrev begins : Hand → HeldConfirm
     begins h = confirm_started h word raw
 
     first-asked : (h : Hand) (queue : List Noted) (b f : Bool) → shown p.counted raw None ≡ b → is_full queue ≡ f →
@@ -74,21 +80,23 @@ module _ (p : Place) (word raw : ℕ) (after : Hand) where
     first-taken : (h : Hand) (n : Noted) (ns : List Noted) (a : ℕ) → confirm_taken p (begins (with_queue h (n ∷ ns))) a ≡ confirm_taken p (room_at h (n ∷ ns)) a
     first-taken h n ns a = rw none (sym (room-same (with_queue (with_persist h) ns) (MakesRoom n) ns))
 
-    full-told : (h : Hand) (queue : List Noted) (list : List Told) → shown p.counted raw None ≡ true → is_full queue ≡ true →
-        Reaches (confirm_asked p) (confirm_taken p) (begins (with_queue h queue)) list Leaves → Reaches (confirm_asked p) (confirm_taken p) (room_at h queue) list Leaves
+    full-told : (h : Hand) (queue : List Noted) (list : List AnsweredEvent) → shown p.counted raw None ≡ true → is_full queue ≡ true →
+        Reaches (confirm_asked p) (confirm_taken p) (begins (with_queue h queue)) list Leaves →
+        Reaches (confirm_asked p) (confirm_taken p) (room_at h queue) list Leaves
     full-told h [] list is_b is_f r = absurd (cc)
     full-told h (n ∷ ns) list is_b is_f r =
         same_events (confirm_asked p) (confirm_taken p) Leaves (λ m e. e.0) (begins (with_queue h (n ∷ ns))) (room_at h (n ∷ ns)) (persist_of n)
         (first-asked h (n ∷ ns) true true is_b is_f) refl (first-taken h n ns) list r
 
-    full-made : (h : Hand) (queue : List Noted) (list : List Told) → shown p.counted raw None ≡ true → is_full queue ≡ true →
-        Reaches (confirm_asked p) (confirm_taken p) (room_at h queue) list Leaves → Reaches (confirm_asked p) (confirm_taken p) (begins (with_queue h queue)) list Leaves
+    full-made : (h : Hand) (queue : List Noted) (list : List AnsweredEvent) → shown p.counted raw None ≡ true → is_full queue ≡ true →
+        Reaches (confirm_asked p) (confirm_taken p) (room_at h queue) list Leaves →
+        Reaches (confirm_asked p) (confirm_taken p) (begins (with_queue h queue)) list Leaves
     full-made h [] list is_b is_f r = absurd (cc)
     full-made h (n ∷ ns) list is_b is_f r =
         same_events (confirm_asked p) (confirm_taken p) Leaves (λ m e. e.0) (room_at h (n ∷ ns)) (begins (with_queue h (n ∷ ns))) (persist_of n)
         refl (first-asked h (n ∷ ns) true true is_b is_f) (λ a. sym (first-taken h n ns a)) list r
 
-    slotless-told : (h : Hand) (list : List Told) (b f : Bool) → shown p.counted raw None ≡ b → is_full h.queue ≡ f →
+    slotless-told : (h : Hand) (list : List AnsweredEvent) (b f : Bool) → shown p.counted raw None ≡ b → is_full h.queue ≡ f →
         Reaches (confirm_asked p) (confirm_taken p) (begins h) list Leaves → Judged b h list
     slotless-told h list true true is_b is_f r =
         confirm-judged-told true h list (rw is_f (full-told h h.queue list is_b is_f r))
@@ -103,7 +111,7 @@ module _ (p : Place) (word raw : ℕ) (after : Hand) where
         let left : with_omitted h ≡ after = rw tagged at last.1.1 in
         (h.queue, (last.0, refl), rw last.0 (refl, left))
 
-    slotless-made : (h : Hand) (list : List Told) (b f : Bool) → shown p.counted raw None ≡ b → is_full h.queue ≡ f →
+    slotless-made : (h : Hand) (list : List AnsweredEvent) (b f : Bool) → shown p.counted raw None ≡ b → is_full h.queue ≡ f →
         Judged b h list → Reaches (confirm_asked p) (confirm_taken p) (begins h) list Leaves
     slotless-made h list true true is_b is_f j =
         let r : Reaches (confirm_asked p) (confirm_taken p) (room_at h h.queue) list Leaves = rw is_f at (confirm-judged-made true h list j) in
@@ -124,30 +132,34 @@ module _ (p : Place) (word raw : ℕ) (after : Hand) where
   judges-same : (h : Hand) (tag : ℕ) → confirm_judges p (confirm_started h word raw) tag ≡ judges_at (shown p.counted raw (Some tag)) h
   judges-same h tag = refl
 
-  abbrev Read : Option ℕ → Hand → List Told → Type 0
-  Read slot h list = (tag_read : List Told) × (fence : List Told) × (tag : Option ℕ) × (list ≡ tag_read ++ fence) × IsTagRead slot tag_read tag × Judged (shown p.counted raw tag) h fence
+  abbrev Read : Option ℕ → Hand → List AnsweredEvent → Type 0
+  Read slot h list = (tag_read : List AnsweredEvent) × (fence : List AnsweredEvent) × (tag : Option ℕ) × (list ≡ tag_read ++ fence)
+      × IsTagRead slot tag_read tag × Judged (shown p.counted raw tag) h fence
 
   slotted-asked : (h : Hand) (slot : ℕ) → p.slot word ≡ Some slot → confirm_asked p (confirm_started h word raw) ≡ Some (ReadTag slot)
   slotted-asked h slot some = rw some refl
 
-  slotted-taken : (h : Hand) (slot a : ℕ) → p.slot word ≡ Some slot → confirm_taken p (confirm_started h word raw) a ≡ judges_at (shown p.counted raw (Some a)) h
+  slotted-taken : (h : Hand) (slot a : ℕ) → p.slot word ≡ Some slot → confirm_taken p (confirm_started h word raw) a ≡ judges_at (shown p.counted raw (Some a))
+      h
   slotted-taken h slot a some = rw some refl
 
-  read-told : (no_slot : p.slot word ≡ None → p.counted ≡ false) (slot : Option ℕ) → p.slot word ≡ slot → (h : Hand) (list : List Told) →
+  read-told : (no_slot : p.slot word ≡ None → p.counted ≡ false) (slot : Option ℕ) → p.slot word ≡ slot → (h : Hand) (list : List AnsweredEvent) →
       Reaches (confirm_asked p) (confirm_taken p) (confirm_started h word raw) list Leaves → Read slot h list
   read-told no_slot None is h list r =
       ([], list, None, refl, (refl, refl), slotless-told is (rw (no_slot is) refl) h list (shown p.counted raw None) (is_full h.queue) refl refl r)
   read-told no_slot (Some slot) is h list r =
-      let one = one_event (confirm_asked p) (confirm_taken p) Leaves (λ m e. e.0) (confirm_started h word raw) (ReadTag slot) list (slotted-asked h slot is) r in (
-        told (ReadTag slot) one.0 ∷ [],
+      let one = one_event (confirm_asked p) (confirm_taken p) Leaves (λ m e. e.0) (confirm_started h word raw) (ReadTag slot) list (slotted-asked h slot is) r
+      in (
+        answered_event (ReadTag slot) one.0 ∷ [],
         one.1,
         Some one.0,
         one.2,
         (one.0, refl, refl),
-        confirm-judged-told (shown p.counted raw (Some one.0)) h one.1 (subst (λ m. Reaches (confirm_asked p) (confirm_taken p) m one.1 Leaves) (slotted-taken h slot one.0 is) one.3),
+        confirm-judged-told (shown p.counted raw (Some one.0)) h one.1 (subst (λ m. Reaches (confirm_asked p) (confirm_taken p) m one.1 Leaves)
+            (slotted-taken h slot one.0 is) one.3),
       )
 
-  read-made : (no_slot : p.slot word ≡ None → p.counted ≡ false) (slot : Option ℕ) → p.slot word ≡ slot → (h : Hand) (list : List Told) →
+  read-made : (no_slot : p.slot word ≡ None → p.counted ≡ false) (slot : Option ℕ) → p.slot word ≡ slot → (h : Hand) (list : List AnsweredEvent) →
       Read slot h list → Reaches (confirm_asked p) (confirm_taken p) (confirm_started h word raw) list Leaves
   read-made no_slot None is h list d =
       let same : list ≡ d.1 = d.3 ∙ ap (λ xs. xs ++ d.1) d.4.0 in
@@ -155,12 +167,14 @@ module _ (p : Place) (word raw : ℕ) (after : Hand) where
       rw same (slotless-made is (rw (no_slot is) refl) h d.1 (shown p.counted raw None) (is_full h.queue) refl refl j)
   read-made no_slot (Some slot) is h list d =
       let count = d.4.0 in
-      let same : list ≡ told (ReadTag slot) count ∷ d.1 = d.3 ∙ ap (λ xs. xs ++ d.1) d.4.1 in
+      let same : list ≡ answered_event (ReadTag slot) count ∷ d.1 = d.3 ∙ ap (λ xs. xs ++ d.1) d.4.1 in
       let j : Judged (shown p.counted raw (Some count)) h d.1 = subst (λ tag. Judged (shown p.counted raw tag) h d.1) d.4.2 d.5 in
       rw same (goes_on (confirm_asked p) (confirm_taken p) Leaves (confirm_started h word raw) (ReadTag slot) count d.1 (slotted-asked h slot is)
-      (subst (λ m. Reaches (confirm_asked p) (confirm_taken p) m d.1 Leaves) (sym (slotted-taken h slot count is)) (confirm-judged-made (shown p.counted raw (Some count)) h d.1 j)))
+      (subst (λ m. Reaches (confirm_asked p) (confirm_taken p) m d.1 Leaves) (sym (slotted-taken h slot count is))
+      (confirm-judged-made (shown p.counted raw (Some count)) h d.1 j)))
 
-pub confirm-told : (p : Place) (slots_for : ℕ → ℕ) → IsPlacement p slots_for → (hand : Hand) (word raw : ℕ) (list : List Told) (after : Hand) → ConfirmEnds p hand word raw list after → IsConfirmList p hand word raw list after
+pub confirm-told : (p : Place) (slots_for : ℕ → ℕ) → IsPlacement p slots_for → (hand : Hand) (word raw : ℕ) (list : List AnsweredEvent) (after : Hand) →
+    ConfirmEnds p hand word raw list after → IsConfirmList p hand word raw list after
 confirm-told p slots_for place hand word raw list after r =
     let d = read-told p word raw after (uncounted p slots_for place word) (p.slot word) refl hand list r in
     let same_count : persists_in d.1 ≡ persists_in list = sym (ap persists_in d.3 ∙ tag-uncounted (p.slot word) d.0 d.2 d.1 d.4) in
@@ -175,8 +189,12 @@ confirm-told p slots_for place hand word raw list after r =
       ends = judged-end (shown p.counted raw d.2) hand d.1 list d.5.0 after d.5.2.1 same_count;
     }
 
-pub confirm-made : (p : Place) (slots_for : ℕ → ℕ) → IsPlacement p slots_for → (hand : Hand) (word raw : ℕ) (list : List Told) (after : Hand) → IsConfirmList p hand word raw list after → ConfirmEnds p hand word raw list after
+pub confirm-made : (p : Place) (slots_for : ℕ → ℕ) → IsPlacement p slots_for → (hand : Hand) (word raw : ℕ) (list : List AnsweredEvent) (after : Hand) →
+    IsConfirmList p hand word raw list after → ConfirmEnds p hand word raw list after
 confirm-made p slots_for place hand word raw list after is =
-    let same_count : persists_in is.fence ≡ persists_in list = sym (ap persists_in is.parts ∙ tag-uncounted (p.slot word) is.tag_read is.tag is.fence is.reads) in
-    let hand_is : judged_hand (shown p.counted raw is.tag) hand is.fence is.queue ≡ after = judged-same (shown p.counted raw is.tag) hand is.fence list is.queue same_count ∙ sym is.ends in
-    read-made p word raw after (uncounted p slots_for place word) (p.slot word) refl hand list (is.tag_read, is.fence, is.tag, is.parts, is.reads, (is.queue, is.queues, (refl, hand_is)))
+    let same_count : persists_in is.fence ≡ persists_in list = sym (ap persists_in is.parts ∙ tag-uncounted (p.slot word) is.tag_read is.tag is.fence is.reads)
+    in
+    let hand_is : judged_hand (shown p.counted raw is.tag) hand is.fence is.queue ≡ after =
+    judged-same (shown p.counted raw is.tag) hand is.fence list is.queue same_count ∙ sym is.ends in
+    read-made p word raw after (uncounted p slots_for place word) (p.slot word) refl hand list
+    (is.tag_read, is.fence, is.tag, is.parts, is.reads, (is.queue, is.queues, (refl, hand_is)))

@@ -1,7 +1,7 @@
 ghost use Rattle.std.specs.Prelude.{◌≤◌, ◌≡◌, IfOk, [], ◌∷◌};
 
 use crate::{Pool, TakeRow, Took};
-use flit_model::{Event, Tally};
+use flit_model::Event;
 use flit_pv::Hand;
 use flit_words::NoMemory;
 use std::alloc::Global;
@@ -13,76 +13,53 @@ fn pool_of_three(alloc: Global) -> Result<Pool, NoMemory> {
 }
 
 /// The answer to each Draw is what the counter was.
-fn draw(rt: &impl Abort, taking: &mut TakeRow, pool: &Pool, counter: u64) {
-    assert_eq!(rt; taking.ask(pool), Some(Event::Draw));
-    taking.take(pool, counter);
-}
-
-fn ended(rt: &impl Abort, taking: TakeRow, pool: &Pool) -> (Hand, Took) {
-    assert!(rt; taking.ask(pool).is_none());
-    taking.end()
+fn draw(rt: &impl Abort, taking: &mut TakeRow, hand: &mut Hand, pool: &Pool, counter: u64) {
+    assert_eq!(rt; taking.ask(hand), Some(Event::Draw));
+    taking.take(hand, pool, counter);
 }
 
 #[test]
-fn one_row(rt: HostRuntime) -> Result<(), Fail> {
+fn one_row_and_two(rt: HostRuntime) -> Result<(), Fail> {
     let pool = pool_of_three(rt.alloc())?;
-    let mut taking = TakeRow::start(Hand::first(1), 1, &pool);
-    draw(&rt, &mut taking, &pool, 0);
-    assert_eq!(rt; taking.tally(), Tally::default());
-    let (hand, took) = ended(&rt, taking, &pool);
-    assert_eq!(rt; took, Took::Taken);
-    assert_eq!(rt; hand.ticket, 0);
-    assert_eq!(rt; hand.spare, [3, 0]);
-    let (hand, took) = ended(&rt, TakeRow::start(hand, 1, &pool), &pool);
-    assert_eq!(rt; took, Took::Taken, "a spare row is there");
-    assert_eq!(rt; hand.spare, [3, 0]);
-    Ok(())
-}
-
-#[test]
-fn two_rows(rt: HostRuntime) -> Result<(), Fail> {
-    let pool = pool_of_three(rt.alloc())?;
-    let mut taking = TakeRow::start(Hand::first(1), 2, &pool);
-    draw(&rt, &mut taking, &pool, 0);
-    draw(&rt, &mut taking, &pool, 1);
-    let (hand, took) = ended(&rt, taking, &pool);
-    assert_eq!(rt; took, Took::Taken);
-    assert_eq!(rt; hand.ticket, 1);
-    assert_eq!(rt; hand.spare, [3, 5]);
-    Ok(())
-}
-
-#[test]
-fn an_empty_pool(rt: HostRuntime) -> Result<(), Fail> {
-    let pool = Pool::new(rt.alloc(), &[])?;
-    let (hand, took) = ended(&rt, TakeRow::start(Hand::first(1), 1, &pool), &pool);
-    assert_eq!(rt; took, Took::None { ticket: 0 });
-    assert_eq!(rt; hand.spare, [0, 0]);
+    let mut hand = Hand::first(1);
+    let mut taking = TakeRow::start(&hand, 1, &pool);
+    assert!(rt; taking.ended().is_none());
+    draw(&rt, &mut taking, &mut hand, &pool, 0);
+    assert!(rt; taking.ask(&hand).is_none());
+    assert_eq!(rt; taking.ended(), Some(Took::Taken));
+    assert_eq!(rt; (hand.ticket, hand.spare), (0, [3, 0]));
+    let again = TakeRow::start(&hand, 1, &pool);
+    assert_eq!(rt; again.ended(), Some(Took::Taken), "a spare row is there");
+    let mut taking = TakeRow::start(&hand, 2, &pool);
+    draw(&rt, &mut taking, &mut hand, &pool, 1);
+    assert_eq!(rt; taking.ended(), Some(Took::Taken));
+    assert_eq!(rt; (hand.ticket, hand.spare), (1, [3, 5]));
+    let empty = Pool::new(rt.alloc(), &[])?;
+    let taking = TakeRow::start(&Hand::first(2), 1, &empty);
+    assert_eq!(rt; taking.ended(), Some(Took::None { ticket: 0 }));
     Ok(())
 }
 
 #[test]
 fn two_hands_past_the_end(rt: HostRuntime) -> Result<(), Fail> {
     let pool = pool_of_three(rt.alloc())?;
-    let mut left = TakeRow::start(Hand::first(1), 2, &pool);
-    let mut right = TakeRow::start(Hand::first(2), 2, &pool);
-    draw(&rt, &mut right, &pool, 0);
-    draw(&rt, &mut left, &pool, 1);
-    draw(&rt, &mut left, &pool, 2);
-    draw(&rt, &mut right, &pool, 3);
-    let (hand, took) = ended(&rt, left, &pool);
-    assert_eq!(rt; took, Took::Taken);
-    assert_eq!(rt; hand.spare, [5, 8]);
-    let (hand, took) = ended(&rt, right, &pool);
-    assert_eq!(rt; took, Took::None { ticket: 3 });
-    assert_eq!(rt; hand.spare, [3, 0], "a row that was taken stays spare");
-    let (hand, took) = ended(&rt, TakeRow::start(hand, 2, &pool), &pool);
+    let mut one = Hand::first(1);
+    let mut two = Hand::first(2);
+    let mut left = TakeRow::start(&one, 2, &pool);
+    let mut right = TakeRow::start(&two, 2, &pool);
+    draw(&rt, &mut right, &mut two, &pool, 0);
+    draw(&rt, &mut left, &mut one, &pool, 1);
+    draw(&rt, &mut left, &mut one, &pool, 2);
+    draw(&rt, &mut right, &mut two, &pool, 3);
+    assert_eq!(rt; (left.ended(), one.spare), (Some(Took::Taken), [5, 8]));
+    assert_eq!(rt; right.ended(), Some(Took::None { ticket: 3 }));
+    assert_eq!(rt; two.spare, [3, 0], "a row that was taken stays spare");
+    let next = TakeRow::start(&two, 2, &pool);
     assert_eq!(rt;
-        took,
-        Took::None { ticket: 3 },
+        next.ended(),
+        Some(Took::None { ticket: 3 }),
         "no second Draw past the end"
     );
-    let (_, took) = ended(&rt, TakeRow::start(hand, 1, &pool), &pool);
-    assert_eq!(rt; took, Took::Taken);
+    assert_eq!(rt; TakeRow::start(&two, 1, &pool).ended(), Some(Took::Taken));
     Ok(())
 }

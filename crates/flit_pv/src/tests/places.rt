@@ -6,14 +6,14 @@ pub struct OneSlot;
 
 impl Placement for OneSlot {
     ghost use Rattle.std.specs.Prelude.{true, Some};
-    ghost use Rattle.std.proofs.Common.{arith};
+    ghost use Rattle.std.proofs.Math.Nat.{zero-lt-suc};
     ghost use Rattle.flit_place.specs.Placing.{counts_in_range};
 
     ghost place = { λ _. record { counted = true; slot = λ _. Some 0 } };
 
     ghost slots_for = { λ _ _. 1 };
 
-    ghost laws = { λ _. counts_in_range (λ _. 0) (λ _. 1) (λ _ _ _. Prim.omega arith) };
+    ghost laws = { λ _. counts_in_range (λ _. 0) (λ _. 1) (λ _ _ _. zero-lt-suc 0) };
 
     fn slots(&self, _words: u32) -> u32 {
         1

@@ -1,8 +1,7 @@
 ghost use Rattle.std.specs.Prelude.{◌≡◌, length};
-ghost use Rattle.flit_words.specs.Layouts.{Accepted};
 
 use flit_model::{Event, Machine, one_place};
-use flit_words::{Layout, Word};
+use flit_words::{Kind, Layout, Word};
 use std::alloc::Global;
 use std::process::Abort;
 use std::test::Fail;
@@ -19,19 +18,21 @@ pub struct Rig {
 }
 
 impl Rig {
-    pub fn new(rt: &impl Abort, alloc: Global, layout: &Layout, words: &[u64]) -> Result<Rig, Fail>
-        requires { Accepted layout.now }
-    {
+    /// A list of rows whose words are all 0.
+    pub fn of_rows(rt: &impl Abort, alloc: Global, rows: u32, slots: u32) -> Result<Rig, Fail> {
+        let layout = Layout::new(Kind::List, 1, rows, slots, 2, 2147483647).ok_or("accepted")?;
+        let words = vec![in alloc; 0; layout.words() as usize]?;
         assert_eq!(rt; words.len(), layout.words() as usize);
         Ok(Rig {
-            machine: Machine::of(alloc, layout, words)?,
+            machine: Machine::of(alloc, &layout, &words)?,
             words: layout.words(),
             slots: layout.slots,
             events: Vec::new(alloc),
         })
     }
 
-    fn apply(&mut self, rt: &impl Abort, event: Event) -> u64 {
+    /// Makes an event, which must be one that this machine allows.
+    pub fn make(&mut self, rt: &impl Abort, event: Event) -> Result<u64, Fail> {
         match event {
             Event::Load { word } => assert!(rt; word < self.words),
             Event::Exchange { word, .. } => assert!(rt; word < self.words),
@@ -51,13 +52,8 @@ impl Rig {
             }
             Event::Draw => panic!(rt; "no machine draws"),
         }
-        one_place();
-        self.machine.apply(event)
-    }
-
-    /// Makes an event, which must be one that this machine allows.
-    pub fn make(&mut self, rt: &impl Abort, event: Event) -> Result<u64, Fail> {
         self.events.push(event)?;
-        Ok(self.apply(rt, event))
+        one_place();
+        Ok(self.machine.apply(event))
     }
 }

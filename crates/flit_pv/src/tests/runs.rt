@@ -7,11 +7,11 @@ use std::process::Abort;
 use std::test::Fail;
 
 macro_rules! make_events {
-    ($rt:expr, $rig:expr, $place:expr, $op:expr, $most:expr) => {
+    ($rt:expr, $rig:expr, $most:expr, $ask:expr, $told:ident => $take:expr) => {
         for _ in 0..$most {
-            if let Some(event) = $op.ask($place) {
-                let told = $rig.make($rt, event)?;
-                $op.take($place, told);
+            if let Some(event) = $ask {
+                let $told = $rig.make($rt, event)?;
+                $take;
             }
         }
     };
@@ -21,40 +21,33 @@ pub fn p_load<P: Placement>(
     rt: &impl Abort,
     rig: &mut Rig,
     place: &P,
-    hand: Hand,
+    hand: &mut Hand,
     word: u32,
-) -> Result<(Hand, u64), Fail> {
-    let mut op = PLoad::start(hand, word);
-    make_events!(rt, rig, place, op, 18);
-    assert!(rt; op.ask(place).is_none());
-    Ok(op.end())
+) -> Result<u64, Fail> {
+    let mut load = PLoad::start(word);
+    make_events!(rt, rig, 18, load.ask(hand, place), told => load.take(hand, place, told));
+    Ok(load.loaded().ok_or("loaded")?)
 }
 
-pub fn v_load<P: Placement>(
-    rt: &impl Abort,
-    rig: &mut Rig,
-    place: &P,
-    hand: Hand,
-    word: u32,
-) -> Result<(Hand, u64), Fail> {
-    let mut op = VLoad::start(hand, word);
-    make_events!(rt, rig, place, op, 1);
-    assert!(rt; op.ask(place).is_none());
-    Ok(op.end())
+pub fn v_load(rt: &impl Abort, rig: &mut Rig, hand: &Hand, word: u32) -> Result<u64, Fail> {
+    let mut load = VLoad::start(word);
+    make_events!(rt, rig, 1, load.ask(hand), told => load.take(hand, told));
+    Ok(load.loaded().ok_or("loaded")?)
 }
 
 pub fn confirm<P: Placement>(
     rt: &impl Abort,
     rig: &mut Rig,
     place: &P,
-    hand: Hand,
+    hand: &mut Hand,
     word: u32,
     raw: u64,
-) -> Result<Hand, Fail> {
-    let mut op = Confirm::start(hand, word, raw);
-    make_events!(rt, rig, place, op, 17);
-    assert!(rt; op.ask(place).is_none());
-    Ok(op.end().0)
+) -> Result<(), Fail> {
+    let mut confirm = Confirm::start(word, raw);
+    make_events!(rt, rig, 17, confirm.ask(hand, place), told => confirm.take(hand, place, told));
+    assert!(rt; confirm.ask(hand, place).is_none());
+    confirm.end(hand);
+    Ok(())
 }
 
 /// Makes at most so many events of an exchange.
@@ -62,86 +55,44 @@ pub fn p_exchange<P: Placement>(
     rt: &impl Abort,
     rig: &mut Rig,
     place: &P,
-    op: &mut PExchange,
+    hand: &mut Hand,
+    exchange: &mut PExchange,
     most: u32,
 ) -> Result<(), Fail> {
-    make_events!(rt, rig, place, op, most);
+    make_events!(rt, rig, most, exchange.ask(hand, place), told => exchange.take(hand, place, told));
     Ok(())
 }
 
-pub fn p_exchange_ends<P: Placement>(
-    rt: &impl Abort,
-    place: &P,
-    op: PExchange,
-) -> (Hand, Exchanged) {
-    assert!(rt; op.ask(place).is_none());
-    op.end()
-}
-
-pub fn v_exchange<P: Placement>(
+pub fn v_exchange(
     rt: &impl Abort,
     rig: &mut Rig,
-    place: &P,
-    op: VExchange,
-) -> Result<(Hand, Exchanged), Fail> {
-    let mut op = op;
-    make_events!(rt, rig, place, op, 1);
-    assert!(rt; op.ask(place).is_none());
-    Ok(op.end())
+    hand: &Hand,
+    exchange: VExchange,
+) -> Result<Exchanged, Fail> {
+    let mut exchange = exchange;
+    make_events!(rt, rig, 1, exchange.ask(hand), told => exchange.take(hand, told));
+    Ok(exchange.ended().ok_or("ended")?)
 }
 
-pub fn private_store<P: Placement>(
+pub fn private_store(
     rt: &impl Abort,
     rig: &mut Rig,
-    place: &P,
-    hand: Hand,
+    hand: &mut Hand,
     first: u32,
     values: &[u32],
     limit: u32,
-) -> Result<(Hand, Stored), Fail> {
+) -> Result<Stored, Fail> {
     let mut given = ArrayVec::new();
     assert!(rt; given.try_extend_from_slice(values).is_ok());
     assert!(rt; first < 1000);
     assert!(rt; limit <= 2147483647);
-    let mut op = PrivateStore::start(hand, first, given, limit);
-    make_events!(rt, rig, place, op, 22);
-    assert!(rt; op.ask(place).is_none());
-    Ok(op.end())
+    let mut store = PrivateStore::start(first, given, limit);
+    make_events!(rt, rig, 22, store.ask(hand), told => store.take(hand, told));
+    Ok(store.ended().ok_or("ended")?)
 }
 
-pub fn fence<P: Placement>(
-    rt: &impl Abort,
-    rig: &mut Rig,
-    place: &P,
-    hand: Hand,
-) -> Result<Hand, Fail> {
-    let mut op = Fence::start(hand);
-    make_events!(rt, rig, place, op, 16);
-    assert!(rt; op.ask(place).is_none());
-    Ok(op.end().0)
-}
-
-pub fn complete<P: Placement>(
-    rt: &impl Abort,
-    rig: &mut Rig,
-    place: &P,
-    hand: Hand,
-) -> Result<Tally, Fail> {
-    let mut op = Complete::start(hand);
-    make_events!(rt, rig, place, op, 16);
-    assert!(rt; op.ask(place).is_none());
-    assert_eq!(rt; op.tally(), op.fence.hand.tally);
-    Ok(op.end().0.tally)
-}
-
-pub fn evict(rt: &impl Abort, rig: &mut Rig, hand: Hand, word: u32) -> Result<Hand, Fail> {
-    let mut op = Evict::start(hand, word);
-    for _ in 0..2 {
-        if let Some(event) = op.ask() {
-            let told = rig.make(rt, event)?;
-            op.take(told);
-        }
-    }
-    assert!(rt; op.ask().is_none());
-    Ok(op.end().0)
+pub fn complete(rt: &impl Abort, rig: &mut Rig, hand: &mut Hand) -> Result<Tally, Fail> {
+    make_events!(rt, rig, 16, Complete.ask(hand), told => Complete.take(hand, told));
+    assert!(rt; hand.queue.is_empty());
+    Ok(hand.tally)
 }
