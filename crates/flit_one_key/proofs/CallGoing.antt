@@ -15,7 +15,7 @@ use Rattle.flit_place.specs.Tags.{Place}
 use Rattle.flit_pv.specs.declared.hands.Hand.{Hand}
 use Rattle.flit_runs.specs.Workings as run
 use Rattle.flit_runs.specs.Worlds as world
-use Rattle.flit_runs.specs.Worlds.{Worker as Actor, world_of, IsAway, IsNotStoring, HasHad, gone_on, event, publishes}
+use Rattle.flit_runs.specs.Worlds.{Actor, world_of, IsAway, IsNotStoring, HasHad, gone_on, event, publishes}
 use Rattle.flit_runs.specs.Soundness.{IsSound, IsSafe, Needs, owed}
 use Rattle.flit_runs.proofs.ExchangeSteps.{around}
 use Rattle.flit_runs.proofs.Turns.{sound-turn, safe}
@@ -24,9 +24,9 @@ use Rattle.flit_structure.specs.Moments.{Moment, with_workers, idle, busy}
 use Rattle.flit_structure.specs.Meanings.{first_at}
 use Rattle.flit_structure.proofs.Names.{all_at}
 use Rattle.flit_structure.proofs.WriteBacks.{old_state}
-use Rattle.flit_one_key.specs.declared.operations.SampleOp.{SampleOp}
+use Rattle.flit_one_key.specs.Operations.{HeldOp}
 use Rattle.flit_one_key.specs.Steps.{hand_at}
-use Rattle.flit_one_key.specs.Knowledge.{Agrees, Acts, Scene, scene_of, Saw, Inserting, HasMade, KnowsAt, KeepsPrivate, TagsAt, hand_in, rows_at, working_at, IsAt, IsOwner, Tags, first_spare}
+use Rattle.flit_one_key.specs.Knowledge.{OneKeyHolds, Acts, Scene, scene_of, Saw, Inserting, HasMade, KnowsAt, KeepsPrivate, TagsAt, hand_in, rows_at, working_at, IsAt, IsOwner, Tags, first_spare}
 use Rattle.flit_one_key.proofs.Actors.{Split}
 use Rattle.flit_one_key.proofs.Changes.{sound_rests}
 use Rattle.flit_one_key.proofs.Replacing.{mine, is_sound}
@@ -51,9 +51,10 @@ pub since_before : (settled : ℕ) (begun : Option ℕ) → first_at 0 begun ≤
 since_before settled None le = omega arith
 since_before settled (Some n) le = le
 
-module _ (l : Layout) (p : Place) (free : List ℕ) (M : Moment SampleOp) (a : List (Worker SampleOp)) (name number : ℕ) (op : SampleOp) (call : Call) (begun : Option ℕ) (b : List (Worker SampleOp))
-    (h : Agrees l p free (with_workers M (a ++ busy name number op call begun ∷ b))) where
-  abbrev pub u : Worker SampleOp
+module _ (l : Layout) (p : Place) (free : List ℕ) (M : Moment HeldOp) (a : List (Worker HeldOp)) (name number : ℕ) (op : HeldOp) (call : Call)
+    (begun : Option ℕ) (b : List (Worker HeldOp))
+    (h : OneKeyHolds l p free (with_workers M (a ++ busy name number op call begun ∷ b))) where
+  abbrev pub u : Worker HeldOp
   u = busy name number op call begun
 
   abbrev pub f : Scene
@@ -76,12 +77,12 @@ module _ (l : Layout) (p : Place) (free : List ℕ) (M : Moment SampleOp) (a : L
   IsSoundWith s g = IsSound p (λ word. false) (world_of s r.before g r.behind)
 
   -- the moment after an event of the call, which is at this now
-  abbrev pub Gone : ℕ → State → SampleOp → Type 0
-  Gone k s next = Agrees l p free (record M { state = s; workers = a ++ busy name number next call (Some (first_at k begun)) ∷ b })
+  abbrev pub Gone : ℕ → State → HeldOp → Type 0
+  Gone k s next = OneKeyHolds l p free (record M { state = s; workers = a ++ busy name number next call (Some (first_at k begun)) ∷ b })
 
   -- what a frame says of the state after the event
   abbrev pub Frame : State → Type 0
-  Frame s = (v : Worker SampleOp) → Follows u v → (g : Actor) → IsSoundWith s g → Stands (scene s) M.progress a u v b r.before g r.behind
+  Frame s = (v : Worker HeldOp) → Follows u v → (g : Actor) → IsSoundWith s g → Stands (scene s) M.progress a u v b r.before g r.behind
 
   pub sound_now : IsSoundWith M.state r.actor
   sound_now = is_sound l p free M a u u b h
@@ -98,14 +99,17 @@ module _ (l : Layout) (p : Place) (free : List ℕ) (M : Moment SampleOp) (a : L
 
   -- the machine's event, by its actor or by the same with its words published
   pub turned : (me : Actor) (e : Event) → IsSoundWith M.state me → run.asks p me.at ≡ Some e → IsSoundWith (after M.state e) (gone_on p M.state e [] me)
-  turned me e sound asked = sound-turn p (λ word. false) (world_of M.state r.before me r.behind) (world_of (after M.state e) r.before (gone_on p M.state e [] me) r.behind)
+  turned me e sound asked = sound-turn p (λ word. false) (world_of M.state r.before me r.behind)
+      (world_of (after M.state e) r.before (gone_on p M.state e [] me) r.behind)
       (event M.state r.before me r.behind e [] asked tt) sound
 
   pub sound_after : (e : Event) → run.asks p (working_at op.at) ≡ Some e → IsSoundWith (after M.state e) (gone_on p M.state e [] me)
   sound_after e asked = turned me e sound_at_call asked
 
-  pub published : IsNotStoring r.actor.at → AllByRecursion (λ w. version_of (word_at M.state w) ≡ version_of (shadow_at M.state w)) r.actor.private → IsSoundWith M.state (record r.actor { private = [] })
-  published idle persistent = sound-turn p (λ word. false) (world_of M.state r.before r.actor r.behind) (world_of M.state r.before (record r.actor { private = [] }) r.behind)
+  pub published : IsNotStoring r.actor.at → AllByRecursion (λ w. version_of (word_at M.state w) ≡ version_of (shadow_at M.state w)) r.actor.private →
+      IsSoundWith M.state (record r.actor { private = [] })
+  published idle persistent = sound-turn p (λ word. false) (world_of M.state r.before r.actor r.behind)
+      (world_of M.state r.before (record r.actor { private = [] }) r.behind)
       (publishes M.state r.before r.actor r.behind idle persistent) sound_now
 
   -- it rests with a later hand, or goes on with its call
@@ -118,7 +122,8 @@ module _ (l : Layout) (p : Place) (free : List ℕ) (M : Moment SampleOp) (a : L
     ticket = later.ticket;
   }
 
-  pub follows_on : (on : SampleOp) (now : Option ℕ) → IsLater (hand_at op.at) (hand_at on.at) → rows_at on.call on.at ≡ rows_at op.call op.at → Follows u (busy name number on call now)
+  pub follows_on : (on : HeldOp) (now : Option ℕ) → IsLater (hand_at op.at) (hand_at on.at) → rows_at on.call on.at ≡ rows_at op.call op.at →
+      Follows u (busy name number on call now)
   follows_on on now later rows = record {
     name = refl;
     number = same_le number;
@@ -128,7 +133,8 @@ module _ (l : Layout) (p : Place) (free : List ℕ) (M : Moment SampleOp) (a : L
   }
 
   -- its machine has ended with this hand
-  pub rests : (s : State) (hand : Hand) → hand.name ≡ (hand_at op.at).name → hand.number ≡ (hand_at op.at).number → (now : Option ℕ) → now ≢ None → first_at 0 now ≤ length M.progress.settled →
+  pub rests : (s : State) (hand : Hand) → hand.name ≡ (hand_at op.at).name → hand.number ≡ (hand_at op.at).number → (now : Option ℕ) → now ≢ None →
+      first_at 0 now ≤ length M.progress.settled →
       (g : Actor) → g.at ≡ run.Idles hand → IsAway g.private 0 → Rests (scene s) name number call now hand g
   rests s hand same_name same_number now some since g at far = record {
     at = at;
@@ -144,7 +150,8 @@ module _ (l : Layout) (p : Place) (free : List ℕ) (M : Moment SampleOp) (a : L
   }
 
   -- what it knows of itself, where it goes on with its call
-  pub acts_on : (s : State) (on : SampleOp) (now : Option ℕ) (g : Actor) → IsLater (hand_at op.at) (hand_at on.at) → g.at ≡ working_at on.at → IsAway g.private 0 → IsAt (scene s) g name number (busy {Op = SampleOp} name number on call now).doing → Acts (scene s) (busy name number on call now) g
+  pub acts_on : (s : State) (on : HeldOp) (now : Option ℕ) (g : Actor) → IsLater (hand_at op.at) (hand_at on.at) → g.at ≡ working_at on.at →
+      IsAway g.private 0 → IsAt (scene s) g name number (busy {Op = HeldOp} name number on call now).doing → Acts (scene s) (busy name number on call now) g
   acts_on s on now g later at far knows = record {
     at = at;
     name = later.name ∙ r.mine.name;
@@ -158,7 +165,7 @@ module _ (l : Layout) (p : Place) (free : List ℕ) (M : Moment SampleOp) (a : L
 
   -- ---- the call is at its machine still
 
-  pub record IsOn (s : State) (g : Actor) (next : SampleOp) : Type 0 where
+  pub record IsOn (s : State) (g : Actor) (next : HeldOp) : Type 0 where
     pub call_same : next.call ≡ op.call
     pub hand : IsLater (hand_at op.at) (hand_at next.at)
     pub rows : rows_at next.call next.at ≡ rows_at op.call op.at
@@ -169,11 +176,11 @@ module _ (l : Layout) (p : Place) (free : List ℕ) (M : Moment SampleOp) (a : L
     pub under_way : begun ≢ None
     pub tags : (bare : ℕ) → TagsAt bare op.at → TagsAt bare next.at
 
-  pub goes_on : (k : ℕ) (s : State) → Frame s → (g : Actor) → IsSoundWith s g → (next : SampleOp) → IsOn s g next → Gone k s next
+  pub goes_on : (k : ℕ) (s : State) → Frame s → (g : Actor) → IsSoundWith s g → (next : HeldOp) → IsOn s g next → Gone k s next
   goes_on k s frame g sound next on =
-      let w : Worker SampleOp = busy name number next call begun in
+      let w : Worker HeldOp = busy name number next call begun in
       let acts = acts_on s next begun g on.hand on.at on.far (on.call_same ∙ is_at.0, is_at.1, on.keeps, is_at.3, on.knows, λ q. absurd (on.under_way q)) in
-      subst (λ o. Agrees l p free (record M { state = s; workers = a ++ busy name number next call o ∷ b })) (sym (since_then k begun on.under_way))
+      subst (λ o. OneKeyHolds l p free (record M { state = s; workers = a ++ busy name number next call o ∷ b })) (sym (since_then k begun on.under_way))
       (settles l p free (record M { state = s }) h.linked h.version a u w w b r.before g r.behind (frame w (follows_on next begun on.hand on.rows) g sound)
       (record { actor = g; sound = sound; acts = acts; replaces = record { name = refl; number = same_le number; rows = refl; spare = refl; ticket = refl } })
       (λ e is own. own) (λ counted tag t. on.tags (bare_of (word_at s 0)) t))
@@ -192,24 +199,26 @@ module _ (l : Layout) (p : Place) (free : List ℕ) (M : Moment SampleOp) (a : L
     pub follows : Follows u (idle name number hand)
     pub under_way : begun ≢ None
 
-  pub ends : (k : ℕ) (s : State) → Frame s → (g : Actor) → IsSoundWith s g → (hand : Hand) → HasEnded g hand → (next : SampleOp) →
-      (Stands (scene s) M.progress a u (idle name number hand) b r.before (left_at hand g) r.behind → Rests (scene s) name number call begun hand (left_at hand g) →
+  pub ends : (k : ℕ) (s : State) → Frame s → (g : Actor) → IsSoundWith s g → (hand : Hand) → HasEnded g hand → (next : HeldOp) →
+      (Stands (scene s) M.progress a u (idle name number hand) b r.before (left_at hand g) r.behind →
+      Rests (scene s) name number call begun hand (left_at hand g) →
       Arrives (scene s) (idle name number hand) r.before r.behind (busy name number next call begun)) →
       (p.counted ≡ false → is_tagged (word_at s 0) ≡ true → TagsAt (bare_of (word_at s 0)) op.at → TagsAt (bare_of (word_at s 0)) next.at) → Gone k s next
   ends k s frame g sound hand end next arrives tags =
-      let v : Worker SampleOp = idle name number hand in
-      let w : Worker SampleOp = busy name number next call begun in
+      let v : Worker HeldOp = idle name number hand in
+      let w : Worker HeldOp = busy name number next call begun in
       let st = frame v end.follows (left_at hand g) (sound_rests p (λ word. false) s r.before g r.behind hand end.writes end.owes sound) in
-      subst (λ o. Agrees l p free (record M { state = s; workers = a ++ busy name number next call o ∷ b })) (sym (since_then k begun end.under_way))
-      (settles l p free (record M { state = s }) h.linked h.version a u v w b r.before (left_at hand g) r.behind st (arrives st (rests s hand end.hand_name end.hand_number begun end.under_way is_at.3 (left_at hand g) refl end.far)) (λ e is own. own) tags)
+      subst (λ o. OneKeyHolds l p free (record M { state = s; workers = a ++ busy name number next call o ∷ b })) (sym (since_then k begun end.under_way))
+      (settles l p free (record M { state = s }) h.linked h.version a u v w b r.before (left_at hand g) r.behind st
+      (arrives st (rests s hand end.hand_name end.hand_number begun end.under_way is_at.3 (left_at hand g) refl end.far)) (λ e is own. own) tags)
 
   -- ---- the state is as before
 
   -- the worker has arrived
-  pub arrived : (v w : Worker SampleOp) → Follows u v → (g : Actor) → IsSoundWith M.state g →
+  pub arrived : (v w : Worker HeldOp) → Follows u v → (g : Actor) → IsSoundWith M.state g →
       (Stands f M.progress a u v b r.before g r.behind → Arrives f v r.before r.behind w) →
       ((e : Entry) → IsOwner e u → IsOwner e w) → ((bare : ℕ) → Tags bare u.doing → Tags bare w.doing) →
-      Agrees l p free (with_workers M (a ++ w ∷ b))
+      OneKeyHolds l p free (with_workers M (a ++ w ∷ b))
   arrived v w next g sound arrives owner tags =
       let st = still l p free M a name number op call begun b h v next g sound in
       settles l p free M h.linked h.version a u v w b r.before g r.behind st (arrives st)
@@ -219,24 +228,41 @@ module _ (l : Layout) (p : Place) (free : List ℕ) (M : Moment SampleOp) (a : L
   abbrev pub rested : Hand → Actor
   rested hand = left_at hand me
 
-  pub resumed : (hand : Hand) → run.writing_at (working_at op.at) ≡ None → owed (working_at op.at) ≡ hand.queue → IsLater (hand_at op.at) hand → rows_at op.call op.at ≡ first_spare (hand_at op.at).spare → begun ≢ None →
-      ((bare : ℕ) → Tags bare u.doing → ⊥) → (on : SampleOp) →
-      (Stands f M.progress a u (idle name number hand) b r.before (rested hand) r.behind → Rests f name number call begun hand (rested hand) → Arrives f (idle name number hand) r.before r.behind (busy name number on call begun)) →
-      Agrees l p free (with_workers M (a ++ busy name number on call (Some (first_at (length M.progress.settled) begun)) ∷ b))
+  pub resumed : (hand : Hand) → run.writing_at (working_at op.at) ≡ None → owed (working_at op.at) ≡ hand.queue → IsLater (hand_at op.at) hand →
+      rows_at op.call op.at ≡ first_spare (hand_at op.at).spare → begun ≢ None →
+      ((bare : ℕ) → Tags bare u.doing → ⊥) → (on : HeldOp) →
+      (Stands f M.progress a u (idle name number hand) b r.before (rested hand) r.behind → Rests f name number call begun hand (rested hand) →
+      Arrives f (idle name number hand) r.before r.behind (busy name number on call begun)) →
+      OneKeyHolds l p free (with_workers M (a ++ busy name number on call (Some (first_at (length M.progress.settled) begun)) ∷ b))
   resumed hand none queue later rows under_way no_tags on arrives =
       ends (length M.progress.settled) M.state (still l p free M a name number op call begun b h) me sound_at_call hand
-      (record { writes = none; owes = queue; far = r.mine.far; hand_name = later.name; hand_number = later.number; follows = follows hand later rows; under_way = under_way })
+      (record {
+        writes = none;
+        owes = queue;
+        far = r.mine.far;
+        hand_name = later.name;
+        hand_number = later.number;
+        follows = follows hand later rows;
+        under_way = under_way;
+      })
       on arrives (λ counted tagged tag. absurd (no_tags (bare_of (word_at M.state 0)) tag))
 
 -- ---- a write-back by the call's machine: first the moment changes, with the call where it was; then the machine goes on
 
-pub persists : (l : Layout) (p : Place) (free : List ℕ) (M : Moment SampleOp) (a : List (Worker SampleOp)) (name number : ℕ) (op : SampleOp) (call : Call) (begun : Option ℕ) (b : List (Worker SampleOp)) →
-    Agrees l p free (with_workers M (a ++ busy name number op call begun ∷ b)) → (word kept k : ℕ) → word < length M.state.words → HasHad (λ w. false) M.state word kept → (next : SampleOp) →
-    ((N : Moment SampleOp) → Agrees l p free (with_workers N (a ++ busy name number op call begun ∷ b)) → after N.state (Persist word kept) ≡ N.state →
-    Agrees l p free (record N { workers = a ++ busy name number next call (Some (first_at k begun)) ∷ b })) →
-    Agrees l p free (record M { state = after M.state (Persist word kept); progress = progress_after M.progress M.state (Persist word kept) None; workers = a ++ busy name number next call (Some (first_at k begun)) ∷ b })
+pub persists : (l : Layout) (p : Place) (free : List ℕ) (M : Moment HeldOp) (a : List (Worker HeldOp)) (name number : ℕ) (op : HeldOp) (call : Call)
+    (begun : Option ℕ) (b : List (Worker HeldOp)) →
+    OneKeyHolds l p free (with_workers M (a ++ busy name number op call begun ∷ b)) → (word kept k : ℕ) → word < length M.state.words →
+    HasHad (λ w. false) M.state word kept → (next : HeldOp) →
+    ((N : Moment HeldOp) → OneKeyHolds l p free (with_workers N (a ++ busy name number op call begun ∷ b)) → after N.state (Persist word kept) ≡ N.state →
+    OneKeyHolds l p free (record N { workers = a ++ busy name number next call (Some (first_at k begun)) ∷ b })) →
+    OneKeyHolds l p free (record M {
+      state = after M.state (Persist word kept);
+      progress = progress_after M.progress M.state (Persist word kept) None;
+      workers =
+          a ++ busy name number next call (Some (first_at k begun)) ∷ b;
+    })
 persists l p free M a name number op call begun b h word kept k below had next goes =
-    let N : Moment SampleOp = record M { state = after M.state (Persist word kept); progress = progress_after M.progress M.state (Persist word kept) None } in
+    let N : Moment HeldOp = record M { state = after M.state (Persist word kept); progress = progress_after M.progress M.state (Persist word kept) None } in
     goes N (persisted l p free (with_workers M (a ++ busy name number op call begun ∷ b)) word kept (subst (λ n. word < n) h.whole.0 below) had h)
     (old_state N.state word kept (shadow_has M.state word kept (subst (λ n. word < n) (sym h.sound.suits.whole) below)))
 
@@ -251,9 +277,18 @@ module _ (f : Scene) (s : State) (more needs : List run.Dependency) (name number
       behind (x ∷ xs) k = inr (behind xs k)
 
   pub saw_on : (head : ℕ) → Saw f needs name number call begun head → Saw (record f { state = s }) (more ++ needs) name number call begun head
-  saw_on head h = record { index = h.index; within = h.within; version = h.version; links = h.links; since = h.since; needed = needs_on 0 (version_of head) h.needed }
+  saw_on head h = record {
+    index = h.index;
+    within = h.within;
+    version = h.version;
+    links = h.links;
+    since = h.since;
+    needed =
+        needs_on 0 (version_of head) h.needed;
+  }
 
-  pub inserting_on : (head : ℕ) (hand hand' : Hand) → hand'.spare ≡ hand.spare → Inserting f needs name number call begun head hand → Inserting (record f { state = s }) (more ++ needs) name number call begun head hand'
+  pub inserting_on : (head : ℕ) (hand hand' : Hand) → hand'.spare ≡ hand.spare → Inserting f needs name number call begun head hand →
+      Inserting (record f { state = s }) (more ++ needs) name number call begun head hand'
   inserting_on head hand hand' same h = record { fresh = h.fresh; saw = saw_on head h.saw; none = h.none; insert = h.insert; row = same ∙ h.row }
 
   pub made_on : HasMade f needs name number call begun → HasMade (record f { state = s }) (more ++ needs) name number call begun

@@ -1,22 +1,20 @@
 -- What being licensed says: at a call's begin, and of the events of one search.
-use Rattle.std.proofs.Common.{◌≡◌, ℕ, ◌+◌, ◌-◌, ◌^◌, ◌≤◌, min, List, [], ◌∷◌, length, Option, Some, None, refl, sym, ap, subst, arith, ◌↔◌, IsNone, IsSome, is_none, if◌then◌else◌}
-use Rattle.std.proofs.lemmas.Bool.{false≢true}
+use Rattle.std.proofs.Common.{◌≡◌, ℕ, ◌+◌, ◌-◌, ◌^◌, ◌≤◌, min, List, [], ◌∷◌, length, Option, Some, None, sym, ap, subst, arith}
 use Rattle.flit_words.specs.declared.layouts.Kind.{Kind}
 use Rattle.flit_words.specs.declared.layouts.Kind.TheVariants.{List as List_kind}
 use Rattle.flit_model.specs.declared.events.Event.{Event}
 use Rattle.flit_model.specs.declared.calls.Call.{Call}
-use Rattle.flit_model.specs.declared.calls.Reply.{Reply}
 use Rattle.flit_model.specs.declared.calls.Tally.{Tally}
 use Rattle.flit_place.specs.Tags.{Place}
 use Rattle.flit_pv.specs.declared.queues.Noted.{Noted}
 use Rattle.flit_pv.specs.declared.hands.Hand.{Hand}
-use Rattle.flit_pv.specs.declared.loads.PLoad.{PLoad}
+use Rattle.flit_pv.specs.Loads.{HeldLoad}
 use Rattle.flit_pv.specs.declared.loads.Loading.{Loading}
 use Rattle.flit_pv.specs.declared.loads.Loading.TheVariants.{Reads as Load_reads, Asks, MakesRoom as Load_makes_room, Has}
-use Rattle.flit_pv.specs.declared.exchanges.PExchange.{PExchange}
+use Rattle.flit_pv.specs.Exchanges.{HeldExchange}
 use Rattle.flit_pv.specs.declared.exchanges.Exchanging.{Exchanging}
 use Rattle.flit_pv.specs.declared.exchanges.Exchanging.TheVariants.{Ready, Tries, TriesBare, WritesBack, Withdraws, Lowers, Ended}
-use Rattle.flit_pv.specs.declared.stores.PrivateStore.{PrivateStore}
+use Rattle.flit_pv.specs.Stores.{HeldStore}
 use Rattle.flit_pv.specs.declared.stores.Storing.{Storing}
 use Rattle.flit_pv.specs.declared.stores.Storing.TheVariants.{Reads as Store_reads, MakesRoom as Store_makes_room, Writes, Ended as Store_ended}
 use Rattle.flit_pv.specs.Queues.{first_persist}
@@ -24,9 +22,9 @@ use Rattle.flit_pv.specs.Loads.{load_asks}
 use Rattle.flit_pv.specs.Stores.{store_asks}
 use Rattle.flit_pv.specs.Exchanges.{exchange_asks}
 use Rattle.flit_structure.specs.Lawful.{AreSearchesBounded, IsTryBounded, IsBelowTop, next_one}
-use Rattle.flit_one_key.specs.declared.operations.At.{At}
-use Rattle.flit_one_key.specs.declared.operations.At.TheVariants.{Head, Key, Value, Row, Words, RowValue, Link, Ends, Rests}
-use Rattle.flit_one_key.specs.declared.operations.SampleOp.{SampleOp}
+use Rattle.flit_one_key.specs.Operations.{At}
+use Rattle.flit_one_key.specs.Operations.{Head, Key, Value, Row, Words, RowValue, Link, Ends, Rests}
+use Rattle.flit_one_key.specs.Operations.{HeldOp}
 use Rattle.flit_one_key.specs.Steps.{asked_at, op_asked, op_begun, hand_at}
 use Rattle.flit_one_key.specs.Counting.{left_at, load_left, store_left, link_left, most_events, IsLicensed}
 
@@ -36,19 +34,19 @@ at_most_one : (o : Option Event) (n : ℕ) → 1 ≤ n → next_one o ≤ n
 at_most_one None n le = omega arith
 at_most_one (Some e) n le = le
 
-load_some : (at : Loading) (m : PLoad) (q : ℕ) → next_one (load_asks at m) ≤ load_left at q
+load_some : (at : Loading) (m : HeldLoad) (q : ℕ) → next_one (load_asks at m) ≤ load_left at q
 load_some Load_reads m q = omega arith
 load_some (Asks raw slot) m q = omega arith
 load_some (Load_makes_room raw first) m q = omega arith
 load_some (Has raw) m q = omega arith
 
-store_some : (behind : ℕ) (at : Storing) (m : PrivateStore) → next_one (store_asks at m) ≤ store_left (behind + 1) at m
+store_some : (behind : ℕ) (at : Storing) (m : HeldStore) → next_one (store_asks at m) ≤ store_left (behind + 1) at m
 store_some behind (Store_reads how) m = omega arith
 store_some behind (Writes next) m = at_most_one (store_asks (Writes next) m) (store_left (behind + 1) (Writes next) m) (omega arith)
 store_some behind (Store_makes_room next first) m = omega arith
 store_some behind (Store_ended how) m = omega arith
 
-link_some : (p : Place) (at : Exchanging) (m : PExchange) (q : ℕ) → next_one (exchange_asks p at m) ≤ link_left at q
+link_some : (p : Place) (at : Exchanging) (m : HeldExchange) (q : ℕ) → next_one (exchange_asks p at m) ≤ link_left at q
 link_some p Ready m q = omega arith
 link_some p (Tries slot) m q = omega arith
 link_some p TriesBare m q = omega arith
@@ -74,7 +72,7 @@ asks_left p (Rests hand) = omega arith
 
 -- ---- what being licensed says
 
-pub means : (k : Kind) (p : Place) (op : SampleOp) (start : Tally) (n : ℕ) → k ≡ List_kind → IsLicensed op start n → IsBelowTop (hand_at op.at).tally →
+pub means : (k : Kind) (p : Place) (op : HeldOp) (start : Tally) (n : ℕ) → k ≡ List_kind → IsLicensed op start n → IsBelowTop (hand_at op.at).tally →
     AreSearchesBounded k start (hand_at op.at).tally × IsTryBounded (Some most_events) n (op_asked p op)
 means k p op start n e licensed below = (
   subst (λ x. AreSearchesBounded x start (hand_at op.at).tally) (sym e) (licensed.searches below.tries below.failed),
@@ -95,8 +93,3 @@ first hand call none = record {
 
     all : (q : ℕ) → q ≡ 0 → 0 + (18 + q) ≤ 18
     all q e = omega (arith, e)
-
--- a call has its reply exactly where it asks nothing
-pub ends_with_reply : (o : Option Event) (reply : Reply) → IsNone o ↔ IsSome (if is_none o then Some reply else None)
-ends_with_reply None reply = ((λ k. refl), (λ k. refl))
-ends_with_reply (Some e) reply = ((λ k. absurd (false≢true (sym k))), (λ k. absurd (false≢true k)))

@@ -10,7 +10,7 @@ use Rattle.flit_model.specs.declared.calls.Reply.TheVariants.{Yes, No, Found, Fu
 use Rattle.flit_pv.specs.declared.hands.Hand.{Hand}
 use Rattle.flit_pv.specs.declared.exchanges.Exchanging.TheVariants.{Ready, Ended}
 use Rattle.flit_pv.specs.declared.exchanges.Exchanged.TheVariants.{Worn as Exchange_worn}
-use Rattle.flit_pv.specs.declared.stores.PrivateStore.{PrivateStore}
+use Rattle.flit_pv.specs.Stores.{HeldStore}
 use Rattle.flit_pv.specs.declared.stores.Storing.{Storing}
 use Rattle.flit_pv.specs.declared.stores.Storing.TheVariants.{Reads as Store_reads, MakesRoom as Store_makes_room, Writes, Ended as Store_ended}
 use Rattle.flit_pv.specs.declared.stores.Stored.TheVariants.{Stored as All_stored, Worn as Store_worn}
@@ -22,8 +22,8 @@ use Rattle.flit_rows.specs.declared.take_row.Taking.{Taking}
 use Rattle.flit_rows.specs.declared.take_row.Taking.TheVariants.{Draws, Ended as Take_ended}
 use Rattle.flit_rows.specs.Taking.{judged, lacks, is_past}
 use Rattle.flit_structure.specs.Meanings.{key_of, value_put}
-use Rattle.flit_one_key.specs.declared.operations.At.{At}
-use Rattle.flit_one_key.specs.declared.operations.SampleOp.{SampleOp}
+use Rattle.flit_one_key.specs.Operations.{At}
+use Rattle.flit_one_key.specs.Operations.{HeldOp}
 use Rattle.flit_one_key.specs.Steps.{answers, links, link_next, stores, stores_value, row_value_so, row_value_by, row_value_next, words_so, words_by, words_next, row_taken, row_so, row_by, row_next, takes_row, value_next, key_is, key_isnt, head_none, head_so, key_next, links_none, key_word, value_word, to_row, hand_at}
 use Rattle.flit_one_key.specs.Counting.{left_at, again_at, differs, store_left}
 
@@ -49,7 +49,7 @@ least n = omega arith
 more : (k n : ℕ) → n ≤ k + n
 more k n = omega arith
 
-module _ (l : Layout) (free : List ℕ) (op : SampleOp) (head : ℕ) where
+module _ (l : Layout) (free : List ℕ) (op : HeldOp) (head : ℕ) where
   pub to_answer : (hand : Hand) (reply : Reply) (n : ℕ) → length hand.queue ≤ n → Arrives head hand n (answers op hand reply).at
   to_answer hand reply n le = record { tries = refl; failed = refl; queued = refl; left = le; again = λ m. least (differs m head) }
 
@@ -57,57 +57,81 @@ module _ (l : Layout) (free : List ℕ) (op : SampleOp) (head : ℕ) where
       (if b then record { hand = hand; word = 0; from = head; to = 0; at = Ended (Exchange_worn 0 (version_of head)) }
       else record { hand = hand; word = 0; from = head; to = next_bare head value; at = Ready })).at
   exchange_case hand value true = to_answer hand (Worn 0 (version_of head)) (4 + length hand.queue) (more 4 (length hand.queue))
-  exchange_case hand value false = record { tries = refl; failed = refl; queued = refl; left = same (4 + length hand.queue); again = λ m. same (differs m head) }
+  exchange_case hand value false = record {
+    tries = refl;
+    failed = refl;
+    queued = refl;
+    left = same (4 + length hand.queue);
+    again =
+        λ m. same (differs m head);
+  }
 
   pub to_exchange : (hand : Hand) (value : ℕ) → Arrives head hand (4 + length hand.queue) (links l op hand head value).at
   to_exchange hand value = exchange_case hand value (nat_le l.limit (version_of head))
 
-  row_value_at : (hand : Hand) (drafts : DraftWords) (at : Storing) → Arrives head hand (store_left 4 at (record { hand = hand; drafts = drafts; at = at })) (row_value_by l op head (record { hand = hand; drafts = drafts; at = at }) at).at
+  row_value_at : (hand : Hand) (drafts : DraftWords) (at : Storing) → Arrives head hand (store_left 4 at (record { hand = hand; drafts = drafts; at = at }))
+      (row_value_by l op head (record { hand = hand; drafts = drafts; at = at }) at).at
   row_value_at hand drafts (Store_reads how) = record { tries = refl; failed = refl; queued = refl; left = same _; again = λ m. same (differs m head) }
   row_value_at hand drafts (Writes next) = record { tries = refl; failed = refl; queued = refl; left = same _; again = λ m. same (differs m head) }
-  row_value_at hand drafts (Store_makes_room next first) = record { tries = refl; failed = refl; queued = refl; left = same _; again = λ m. same (differs m head) }
+  row_value_at hand drafts (Store_makes_room next first) = record {
+    tries = refl;
+    failed = refl;
+    queued = refl;
+    left = same _;
+    again =
+        λ m. same (differs m head);
+  }
   row_value_at hand drafts (Store_ended All_stored) = to_exchange hand to_row
   row_value_at hand drafts (Store_ended (Store_worn word version)) = to_answer hand (Worn word version) (4 + length hand.queue) (more 4 (length hand.queue))
 
-  pub to_row_value : (m : PrivateStore) → Arrives head m.hand (store_left 4 m.at m) (row_value_next l op head m).at
+  pub to_row_value : (m : HeldStore) → Arrives head m.hand (store_left 4 m.at m) (row_value_next l op head m).at
   to_row_value m = row_value_at m.hand m.drafts m.at
 
-  words_stored : (hand : Hand) (b : Bool) → Arrives head hand (7 + length hand.queue) (if b then stores_value l op hand head (value_put op.call) else links l op hand head to_row).at
+  words_stored : (hand : Hand) (b : Bool) → Arrives head hand (7 + length hand.queue) (if b then stores_value l op hand head (value_put op.call)
+      else links l op hand head to_row).at
   words_stored hand true = to_row_value (store_started hand (value_word l) (value_put op.call ∷ []) l.limit)
-  words_stored hand false = later head hand (4 + length hand.queue) (7 + length hand.queue) (links l op hand head to_row).at (up (length hand.queue)) (to_exchange hand to_row)
+  words_stored hand false = later head hand (4 + length hand.queue) (7 + length hand.queue) (links l op hand head to_row).at (up (length hand.queue))
+      (to_exchange hand to_row)
     where
       up : (n : ℕ) → 4 + n ≤ 7 + n
       up n = omega arith
 
-  words_at : (hand : Hand) (drafts : DraftWords) (at : Storing) → Arrives head hand (store_left 7 at (record { hand = hand; drafts = drafts; at = at })) (words_by l op head (value_put op.call) (record { hand = hand; drafts = drafts; at = at }) at).at
+  words_at : (hand : Hand) (drafts : DraftWords) (at : Storing) → Arrives head hand (store_left 7 at (record { hand = hand; drafts = drafts; at = at }))
+      (words_by l op head (value_put op.call) (record { hand = hand; drafts = drafts; at = at }) at).at
   words_at hand drafts (Store_reads how) = record { tries = refl; failed = refl; queued = refl; left = same _; again = λ m. same (differs m head) }
   words_at hand drafts (Writes next) = record { tries = refl; failed = refl; queued = refl; left = same _; again = λ m. same (differs m head) }
   words_at hand drafts (Store_makes_room next first) = record { tries = refl; failed = refl; queued = refl; left = same _; again = λ m. same (differs m head) }
   words_at hand drafts (Store_ended All_stored) = words_stored hand l.values
   words_at hand drafts (Store_ended (Store_worn word version)) = to_answer hand (Worn word version) (7 + length hand.queue) (more 7 (length hand.queue))
 
-  pub to_words : (m : PrivateStore) → Arrives head m.hand (store_left 7 m.at m) (words_next l op head m).at
+  pub to_words : (m : HeldStore) → Arrives head m.hand (store_left 7 m.at m) (words_next l op head m).at
   to_words m = words_at m.hand m.drafts m.at
 
   pub to_stores : (hand : Hand) → Arrives head hand (13 + length hand.queue) (stores l op hand head).at
-  to_stores hand = later head hand (7 + 3 * 2 + 2 * 0 + length hand.queue) (13 + length hand.queue) (stores l op hand head).at (up (length hand.queue)) (to_words (store_started hand (key_word l) (key_of op.call ∷ 0 ∷ []) l.limit))
+  to_stores hand = later head hand (7 + 3 * 2 + 2 * 0 + length hand.queue) (13 + length hand.queue) (stores l op hand head).at (up (length hand.queue))
+      (to_words (store_started hand (key_word l) (key_of op.call ∷ 0 ∷ []) l.limit))
     where
       up : (n : ℕ) → 7 + 3 * 2 + 2 * 0 + n ≤ 13 + n
       up n = omega arith
 
-  taken_case : (hand : Hand) (b : Bool) → b ≡ true → Arrives head hand (13 + length hand.queue) (if b then stores l op hand head else Rattle.flit_one_key.specs.Steps.searches op hand).at
+  taken_case : (hand : Hand) (b : Bool) → b ≡ true → Arrives head hand (13 + length hand.queue) (if b then stores l op hand head
+      else Rattle.flit_one_key.specs.Steps.searches op hand).at
   taken_case hand true e = to_stores hand
   taken_case hand false e = absurd (cc)
 
   -- a row was taken or there is none
-  pub to_taken : (hand : Hand) (need : ℕ) (at : Taking) → at ≢ Draws → (at ≡ Take_ended Taken → links_none head ≡ true) → Arrives head hand (13 + length hand.queue) (row_by l op head (record { hand = hand; need = need; at = at }) at).at
+  pub to_taken : (hand : Hand) (need : ℕ) (at : Taking) → at ≢ Draws → (at ≡ Take_ended Taken → links_none head ≡ true) →
+      Arrives head hand (13 + length hand.queue) (row_by l op head (record { hand = hand; need = need; at = at }) at).at
   to_taken hand need Draws other none = absurd (other refl)
   to_taken hand need (Take_ended Taken) other none = taken_case hand (links_none head) (none refl)
   to_taken hand need (Take_ended (NoRow ticket)) other none = to_answer hand (Full ticket) (13 + length hand.queue) (more 13 (length hand.queue))
 
-  to_take : (hand : Hand) (need : ℕ) (at : Taking) → (at ≡ Take_ended Taken → links_none head ≡ true) → Arrives head hand (14 + length hand.queue) (row_by l op head (record { hand = hand; need = need; at = at }) at).at
+  to_take : (hand : Hand) (need : ℕ) (at : Taking) → (at ≡ Take_ended Taken → links_none head ≡ true) →
+      Arrives head hand (14 + length hand.queue) (row_by l op head (record { hand = hand; need = need; at = at }) at).at
   to_take hand need Draws none = record { tries = refl; failed = refl; queued = refl; left = same (14 + length hand.queue); again = λ m. same (differs m head) }
-  to_take hand need (Take_ended took) none = later head hand (13 + length hand.queue) (14 + length hand.queue) (row_by l op head (record { hand = hand; need = need; at = Take_ended took }) (Take_ended took)).at (up (length hand.queue)) (to_taken hand need (Take_ended took) (λ q. absurd (cc)) none)
+  to_take hand need (Take_ended took) none = later head hand (13 + length hand.queue) (14 + length hand.queue)
+      (row_by l op head (record { hand = hand; need = need; at = Take_ended took }) (Take_ended took)).at (up (length hand.queue))
+      (to_taken hand need (Take_ended took) (λ q. absurd (cc)) none)
     where
       up : (n : ℕ) → 13 + n ≤ 14 + n
       up n = omega arith
@@ -117,13 +141,16 @@ module _ (l : Layout) (free : List ℕ) (op : SampleOp) (head : ℕ) where
   judged_taken true true ticket q = absurd (cc)
   judged_taken true false ticket q = absurd (cc)
 
-  pub to_row_taken : (hand : Hand) → (lacks 1 hand.spare ≡ false → links_none head ≡ true) → Arrives head hand (14 + length hand.queue) (takes_row l free op hand head).at
-  to_row_taken hand none = to_take hand 1 (judged (lacks 1 hand.spare) (is_past free hand.ticket) hand.ticket) (λ q. none (judged_taken (lacks 1 hand.spare) (is_past free hand.ticket) hand.ticket q))
+  pub to_row_taken : (hand : Hand) → (lacks 1 hand.spare ≡ false → links_none head ≡ true) →
+      Arrives head hand (14 + length hand.queue) (takes_row l free op hand head).at
+  to_row_taken hand none = to_take hand 1 (judged (lacks 1 hand.spare) (is_past free hand.ticket) hand.ticket)
+      (λ q. none (judged_taken (lacks 1 hand.spare) (is_past free hand.ticket) hand.ticket q))
 
   few : (n : ℕ) → 4 + n ≤ 14 + n
   few n = omega arith
 
-  get_case : (hand : Hand) (b : Bool) → Arrives head hand (14 + length hand.queue) (if b then value_next op (v_load_started hand (value_word l)) else answers op hand (Found 0)).at
+  get_case : (hand : Hand) (b : Bool) → Arrives head hand (14 + length hand.queue) (if b then value_next op (v_load_started hand (value_word l))
+      else answers op hand (Found 0)).at
   get_case hand true = record { tries = refl; failed = refl; queued = refl; left = up (length hand.queue); again = λ m. least (differs m head) }
     where
       up : (n : ℕ) → 1 + n ≤ 14 + n
@@ -132,18 +159,21 @@ module _ (l : Layout) (free : List ℕ) (op : SampleOp) (head : ℕ) where
 
   to_key_is : (hand : Hand) (call : Call) → Arrives head hand (14 + length hand.queue) (key_is l op hand head call).at
   to_key_is hand (Insert k v) = to_answer hand No (14 + length hand.queue) (more 14 (length hand.queue))
-  to_key_is hand (Remove k) = later head hand (4 + length hand.queue) (14 + length hand.queue) (links l op hand head 0).at (few (length hand.queue)) (to_exchange hand 0)
+  to_key_is hand (Remove k) = later head hand (4 + length hand.queue) (14 + length hand.queue) (links l op hand head 0).at (few (length hand.queue))
+      (to_exchange hand 0)
   to_key_is hand (Contains k) = to_answer hand Yes (14 + length hand.queue) (more 14 (length hand.queue))
   to_key_is hand (Get k) = get_case hand l.values
 
-  to_key_isnt : (hand : Hand) (call : Call) → (lacks 1 hand.spare ≡ false → links_none head ≡ true) → Arrives head hand (14 + length hand.queue) (key_isnt l free op hand head call).at
+  to_key_isnt : (hand : Hand) (call : Call) → (lacks 1 hand.spare ≡ false → links_none head ≡ true) →
+      Arrives head hand (14 + length hand.queue) (key_isnt l free op hand head call).at
   to_key_isnt hand (Insert k v) none = to_row_taken hand none
   to_key_isnt hand (Remove k) none = to_answer hand No (14 + length hand.queue) (more 14 (length hand.queue))
   to_key_isnt hand (Contains k) none = to_answer hand No (14 + length hand.queue) (more 14 (length hand.queue))
   to_key_isnt hand (Get k) none = to_answer hand No (14 + length hand.queue) (more 14 (length hand.queue))
 
   -- the row's key was loaded
-  pub to_key : (hand : Hand) (b : Bool) → (lacks 1 hand.spare ≡ false → links_none head ≡ true) → Arrives head hand (14 + length hand.queue) (if b then key_is l op hand head op.call else key_isnt l free op hand head op.call).at
+  pub to_key : (hand : Hand) (b : Bool) → (lacks 1 hand.spare ≡ false → links_none head ≡ true) →
+      Arrives head hand (14 + length hand.queue) (if b then key_is l op hand head op.call else key_isnt l free op hand head op.call).at
   to_key hand true none = to_key_is hand op.call
   to_key hand false none = to_key_isnt hand op.call none
 
@@ -154,8 +184,10 @@ module _ (l : Layout) (free : List ℕ) (op : SampleOp) (head : ℕ) where
   to_head_none hand (Get k) none = to_answer hand No (14 + length hand.queue) (more 14 (length hand.queue))
 
   -- the head was loaded
-  head_case : (hand : Hand) (b : Bool) → links_none head ≡ b → Arrives head hand (15 + length hand.queue) (if b then head_none l free op hand head op.call else key_next l free op head (v_load_started hand (key_word l))).at
-  head_case hand true e = later head hand (14 + length hand.queue) (15 + length hand.queue) (head_none l free op hand head op.call).at (up (length hand.queue)) (to_head_none hand op.call e)
+  head_case : (hand : Hand) (b : Bool) → links_none head ≡ b → Arrives head hand (15 + length hand.queue) (if b then head_none l free op hand head op.call
+      else key_next l free op head (v_load_started hand (key_word l))).at
+  head_case hand true e = later head hand (14 + length hand.queue) (15 + length hand.queue) (head_none l free op hand head op.call).at (up (length hand.queue))
+      (to_head_none hand op.call e)
     where
       up : (n : ℕ) → 14 + n ≤ 15 + n
       up n = omega arith

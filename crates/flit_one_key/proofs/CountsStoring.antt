@@ -6,7 +6,7 @@ use Rattle.flit_model.specs.declared.events.Event.{Event}
 use Rattle.flit_model.specs.declared.events.Event.TheVariants.{Store}
 use Rattle.flit_pv.specs.declared.queues.Noted.{Noted}
 use Rattle.flit_pv.specs.declared.hands.Hand.{Hand}
-use Rattle.flit_pv.specs.declared.stores.PrivateStore.{PrivateStore}
+use Rattle.flit_pv.specs.Stores.{HeldStore}
 use Rattle.flit_pv.specs.declared.stores.Storing.{Storing}
 use Rattle.flit_pv.specs.declared.stores.Storing.TheVariants.{Reads as Store_reads, MakesRoom as Store_makes_room, Writes, Ended as Store_ended}
 use Rattle.flit_pv.specs.declared.stores.Stored.{Stored}
@@ -18,22 +18,23 @@ use Rattle.flit_pv.specs.Stores.{store_asks, store_takes, store_taken, store_roo
 use Rattle.flit_one_key.specs.Counting.{store_left}
 
 -- a store with this hand's counts, and with this many events left at most
-pub record HasLeft (behind : ℕ) (hand : Hand) (most : ℕ) (m : PrivateStore) : Type 0 where
+pub record HasLeft (behind : ℕ) (hand : Hand) (most : ℕ) (m : HeldStore) : Type 0 where
   pub tries : m.hand.tally.tries ≡ hand.tally.tries
   pub failed : m.hand.tally.failed ≡ hand.tally.failed
   pub queued : m.hand.tally.queued ≡ hand.tally.queued
   pub left : store_left behind m.at m ≤ most
 
 module _ (n : ℕ) where
-  next_left : (m : PrivateStore) (ready : List Noted) → HasLeft n m.hand (n + 2 * length ready + length m.hand.queue) (store_next m ready)
+  next_left : (m : HeldStore) (ready : List Noted) → HasLeft n m.hand (n + 2 * length ready + length m.hand.queue) (store_next m ready)
   next_left m [] = record { tries = refl; failed = refl; queued = refl; left = omega arith }
   next_left m (x ∷ xs) = record { tries = refl; failed = refl; queued = refl; left = omega arith }
 
-  decides_left : (m : PrivateStore) (how : Stored) → HasLeft n m.hand (n + 2 * length m.drafts.ready + length m.hand.queue) (store_decides m how)
+  decides_left : (m : HeldStore) (how : Stored) → HasLeft n m.hand (n + 2 * length m.drafts.ready + length m.hand.queue) (store_decides m how)
   decides_left m All_stored = next_left m m.drafts.ready
   decides_left m (Store_worn word version) = record { tries = refl; failed = refl; queued = refl; left = omega arith }
 
-  goes_on_left : (m : PrivateStore) (how : Stored) (values : List ℕ) → m.drafts.values ≡ values → HasLeft n m.hand (n + 3 * length values + 2 * length m.drafts.ready + length m.hand.queue) (store_goes_on m how values)
+  goes_on_left : (m : HeldStore) (how : Stored) (values : List ℕ) → m.drafts.values ≡ values →
+      HasLeft n m.hand (n + 3 * length values + 2 * length m.drafts.ready + length m.hand.queue) (store_goes_on m how values)
   goes_on_left m how [] e = let h = decides_left m how in record { tries = h.tries; failed = h.failed; queued = h.queued; left = omega (arith, h.left) }
   goes_on_left m how (v ∷ vs) e = record { tries = refl; failed = refl; queued = refl; left = omega (arith, ap length e) }
 
@@ -42,17 +43,27 @@ module _ (n : ℕ) where
   ready_more false ready x = omega (arith, length-append ready (x ∷ []))
 
   -- a word is loaded
-  reads_left : (m : PrivateStore) (how : Stored) (told : ℕ) (values : List ℕ) → (v : ℕ) (vs : List ℕ) → values ≡ v ∷ vs → m.drafts.values ≡ values →
-      HasLeft n m.hand (n + 3 * length vs + 2 * (length m.drafts.ready + 1) + length m.hand.queue) (store_goes_on (record m { drafts = draft_read m.drafts told values }) how (draft_read m.drafts told values).values)
+  reads_left : (m : HeldStore) (how : Stored) (told : ℕ) (values : List ℕ) → (v : ℕ) (vs : List ℕ) → values ≡ v ∷ vs → m.drafts.values ≡ values →
+      HasLeft n m.hand (n + 3 * length vs + 2 * (length m.drafts.ready + 1) + length m.hand.queue)
+      (store_goes_on (record m { drafts = draft_read m.drafts told values }) how (draft_read m.drafts told values).values)
   reads_left m how told [] v vs q e = absurd (cc)
   reads_left m how told (w ∷ ws) v vs q e =
       let h = goes_on_left (record m { drafts = draft_read m.drafts told (w ∷ ws) }) how ws refl in
       let same : suc (length ws) ≡ suc (length vs) = ap length q in
-      record { tries = h.tries; failed = h.failed; queued = h.queued; left = omega (arith, h.left, same, ready_more (is_worn m.drafts told) m.drafts.ready (noted m.drafts.word (next_bare told w))) }
+      record {
+        tries = h.tries;
+        failed = h.failed;
+        queued = h.queued;
+        left =
+            omega (arith, h.left, same, ready_more (is_worn m.drafts told) m.drafts.ready (noted m.drafts.word (next_bare told w)));
+      }
 
   -- the first pair of a full queue is written back, or a word is stored
-  written_left : (m : PrivateStore) (next : Noted) (queue : List Noted) (b : Bool) (e : Event) → m.hand.queue ≡ queue → (if b then first_persist queue else Some (Store next.word next.kept)) ≡ Some e →
-      HasLeft n m.hand (n + 2 * length m.drafts.ready + 1 + length m.hand.queue) (if b then (let hand = fenced_one m.hand queue in store_room (record m { hand = hand }) next hand.queue) else store_next (record m { hand = with_pair m.hand next }) m.drafts.ready)
+  written_left : (m : HeldStore) (next : Noted) (queue : List Noted) (b : Bool) (e : Event) → m.hand.queue ≡ queue →
+      (if b then first_persist queue else Some (Store next.word next.kept)) ≡ Some e →
+      HasLeft n m.hand (n + 2 * length m.drafts.ready + 1 + length m.hand.queue)
+      (if b then (let hand = fenced_one m.hand queue in store_room (record m { hand = hand }) next hand.queue)
+      else store_next (record m { hand = with_pair m.hand next }) m.drafts.ready)
   written_left m next [] true e is q = absurd (none-some e q)
   written_left m next (x ∷ []) true e is q = record { tries = refl; failed = refl; queued = refl; left = omega (arith, ap length is) }
   written_left m next (x ∷ y ∷ ys) true e is q = record { tries = refl; failed = refl; queued = refl; left = omega (arith, ap length is) }
@@ -61,7 +72,8 @@ module _ (n : ℕ) where
       record { tries = h.tries; failed = h.failed; queued = h.queued; left = omega (arith, h.left, length-append m.hand.queue (next ∷ [])) }
 
   -- a pair is written back to make room
-  makes_left : (m : PrivateStore) (next : Noted) (queue : List Noted) → m.hand.queue ≡ queue → HasLeft n m.hand (n + 2 * (length m.drafts.ready + 1) + length m.hand.queue) (store_room (record m { hand = with_persist m.hand }) next queue)
+  makes_left : (m : HeldStore) (next : Noted) (queue : List Noted) → m.hand.queue ≡ queue →
+      HasLeft n m.hand (n + 2 * (length m.drafts.ready + 1) + length m.hand.queue) (store_room (record m { hand = with_persist m.hand }) next queue)
   makes_left m next [] is = record { tries = refl; failed = refl; queued = refl; left = omega arith }
   makes_left m next (x ∷ xs) is = record { tries = refl; failed = refl; queued = refl; left = omega (arith, ap length is) }
 
@@ -72,22 +84,29 @@ module _ (n : ℕ) where
   HasSome (Store_makes_room next first) values = Unit {0}
   HasSome (Store_ended how) values = Unit {0}
 
-  pub record Falls (m after : PrivateStore) : Type 0 where
+  pub record Falls (m after : HeldStore) : Type 0 where
     pub tries : after.hand.tally.tries ≡ m.hand.tally.tries
     pub failed : after.hand.tally.failed ≡ m.hand.tally.failed
     pub queued : after.hand.tally.queued ≡ m.hand.tally.queued
     pub left : store_left n after.at after < store_left n m.at m
 
-  from_left : (m after : PrivateStore) (most : ℕ) → most < store_left n m.at m → HasLeft n m.hand most after → Falls m after
-  from_left m after most lt h = record { tries = h.tries; failed = h.failed; queued = h.queued; left = below (store_left n after.at after) most (store_left n m.at m) h.left lt }
+  from_left : (m after : HeldStore) (most : ℕ) → most < store_left n m.at m → HasLeft n m.hand most after → Falls m after
+  from_left m after most lt h = record {
+    tries = h.tries;
+    failed = h.failed;
+    queued = h.queued;
+    left =
+        below (store_left n after.at after) most (store_left n m.at m) h.left lt;
+  }
     where
       below : (a b c : ℕ) → a ≤ b → b < c → a < c
       below a b c i j = omega (arith, i, j)
 
-  store_at : (hand : Hand) (drafts : DraftWords) (at : Storing) (told : ℕ) (e : Event) → store_asks at (record { hand = hand; drafts = drafts; at = at }) ≡ Some e → HasSome at drafts.values →
+  store_at : (hand : Hand) (drafts : DraftWords) (at : Storing) (told : ℕ) (e : Event) →
+      store_asks at (record { hand = hand; drafts = drafts; at = at }) ≡ Some e → HasSome at drafts.values →
       Falls (record { hand = hand; drafts = drafts; at = at }) (store_takes at (record { hand = hand; drafts = drafts; at = at }) told)
   store_at hand drafts (Store_reads how) told e q some =
-      let m : PrivateStore = record { hand = hand; drafts = drafts; at = Store_reads how } in
+      let m : HeldStore = record { hand = hand; drafts = drafts; at = Store_reads how } in
       from_left m (store_takes (Store_reads how) m told) (n + 3 * length some.1 + 2 * (length drafts.ready + 1) + length hand.queue)
       (less (length drafts.values) (length some.1) (length drafts.ready) (length hand.queue) (ap length some.2))
       (reads_left m (if is_worn drafts told then worn_at how drafts.word (version_of told) else how) told drafts.values some.0 some.1 some.2 refl)
@@ -95,12 +114,14 @@ module _ (n : ℕ) where
       less : (a b r q : ℕ) → a ≡ suc b → n + 3 * b + 2 * (r + 1) + q < n + 3 * a + 2 * r + q
       less a b r q e = omega (arith, e)
   store_at hand drafts (Writes next) told e q some =
-      let m : PrivateStore = record { hand = hand; drafts = drafts; at = Writes next } in
-      from_left m (store_takes (Writes next) m told) (n + 2 * length drafts.ready + 1 + length hand.queue) (omega arith) (written_left m next hand.queue (is_full hand.queue) e refl q)
+      let m : HeldStore = record { hand = hand; drafts = drafts; at = Writes next } in
+      from_left m (store_takes (Writes next) m told) (n + 2 * length drafts.ready + 1 + length hand.queue) (omega arith)
+      (written_left m next hand.queue (is_full hand.queue) e refl q)
   store_at hand drafts (Store_makes_room next first) told e q some =
-      let m : PrivateStore = record { hand = hand; drafts = drafts; at = Store_makes_room next first } in
-      from_left m (store_takes (Store_makes_room next first) m told) (n + 2 * (length drafts.ready + 1) + length hand.queue) (omega arith) (makes_left m next hand.queue refl)
+      let m : HeldStore = record { hand = hand; drafts = drafts; at = Store_makes_room next first } in
+      from_left m (store_takes (Store_makes_room next first) m told) (n + 2 * (length drafts.ready + 1) + length hand.queue) (omega arith)
+      (makes_left m next hand.queue refl)
   store_at hand drafts (Store_ended how) told e q some = absurd (none-some e q)
 
-  pub store_falls : (m : PrivateStore) (told : ℕ) (e : Event) → store_asks m.at m ≡ Some e → HasSome m.at m.drafts.values → Falls m (store_taken m told)
+  pub store_falls : (m : HeldStore) (told : ℕ) (e : Event) → store_asks m.at m ≡ Some e → HasSome m.at m.drafts.values → Falls m (store_taken m told)
   store_falls m told e q some = store_at m.hand m.drafts m.at told e q some

@@ -12,11 +12,11 @@ use Rattle.flit_structure.specs.declared.workers.Doing.TheVariants.{Idle, Busy, 
 use Rattle.flit_structure.specs.declared.workers.Worker.{Worker}
 use Rattle.flit_structure.specs.Moments.{Moment, with_workers, busy, update_of}
 use Rattle.flit_structure.specs.Meanings.{asks, moment_after, first_at}
-use Rattle.flit_one_key.specs.declared.operations.At.{At}
-use Rattle.flit_one_key.specs.declared.operations.At.TheVariants.{Head, Key, Value, Row, Words, RowValue, Link, Ends, Rests}
-use Rattle.flit_one_key.specs.declared.operations.SampleOp.{SampleOp}
+use Rattle.flit_one_key.specs.Operations.{At}
+use Rattle.flit_one_key.specs.Operations.{Head, Key, Value, Row, Words, RowValue, Link, Ends, Rests}
+use Rattle.flit_one_key.specs.Operations.{HeldOp}
 use Rattle.flit_one_key.specs.Steps.{asked_at, effect_at, op_taken}
-use Rattle.flit_one_key.specs.Knowledge.{Agrees}
+use Rattle.flit_one_key.specs.Knowledge.{OneKeyHolds}
 use Rattle.flit_one_key.specs.OneKey.{one_key}
 use Rattle.flit_one_key.proofs.Sweeping.{sweeps}
 use Rattle.flit_one_key.proofs.StepsLoading.{head_step, key_step, value_step}
@@ -25,10 +25,11 @@ use Rattle.flit_one_key.proofs.StepsEnding.{end_step}
 use Rattle.flit_one_key.proofs.StepsStoring.{words_step, row_value_step}
 use Rattle.flit_one_key.proofs.StepsLinking.{link_step}
 
-module _ (l : Layout) (p : Place) (free : List ℕ) (M : Moment SampleOp) (a : List (Worker SampleOp)) (name number : ℕ) (op : SampleOp) (call : Call) (begun : Option ℕ) (b : List (Worker SampleOp))
-    (h : Agrees l p free (with_workers M (a ++ busy name number op call begun ∷ b))) (e : Event) where
+module _ (l : Layout) (p : Place) (free : List ℕ) (M : Moment HeldOp) (a : List (Worker HeldOp)) (name number : ℕ) (op : HeldOp) (call : Call)
+    (begun : Option ℕ) (b : List (Worker HeldOp))
+    (h : OneKeyHolds l p free (with_workers M (a ++ busy name number op call begun ∷ b))) (e : Event) where
   abbrev Kept : At → Type 0
-  Kept at = Agrees l p free (record M {
+  Kept at = OneKeyHolds l p free (record M {
     state = after M.state e;
     progress = progress_after M.progress M.state e (if effect_at p at then Some (update_of name number call) else None);
     workers = a ++ busy name number (op_taken l p free op (answer M.state e)) call (Some (first_at (length M.progress.settled) begun)) ∷ b;
@@ -45,11 +46,11 @@ module _ (l : Layout) (p : Place) (free : List ℕ) (M : Moment SampleOp) (a : L
   at_step (Ends m) is q = end_step l p free M a name number op call begun b h m is e q
   at_step (Rests hand) is q = absurd (none-some e q)
 
-module _ {S : Type 0} (layout_of : S → Layout) (place_of : S → Place) (free_of : S → List ℕ) (s : S) where
-  pub steps : (M : Moment SampleOp) (a : List (Worker SampleOp)) (name number : ℕ) (d : Doing SampleOp) (b : List (Worker SampleOp)) (e : Event) →
-      let u : Worker SampleOp = record { name = name; number = number; doing = d } in
-      asks (one_key layout_of place_of free_of) s d ≡ Some e → Agrees (layout_of s) (place_of s) (free_of s) (with_workers M (a ++ u ∷ b)) →
-      Agrees (layout_of s) (place_of s) (free_of s) (moment_after (one_key layout_of place_of free_of) s M e a u b)
+module _ (l : Layout) (p : Place) (free : List ℕ) where
+  pub steps : (M : Moment HeldOp) (a : List (Worker HeldOp)) (name number : ℕ) (d : Doing HeldOp) (b : List (Worker HeldOp)) (e : Event) →
+      let u : Worker HeldOp = record { name = name; number = number; doing = d } in
+      asks (one_key l p free) d ≡ Some e → OneKeyHolds l p free (with_workers M (a ++ u ∷ b)) →
+      OneKeyHolds l p free (moment_after (one_key l p free) M e a u b)
   steps M a name number (Idle hand) b e q h = absurd (none-some e q)
-  steps M a name number (Busy op call begun) b e q h = at_step (layout_of s) (place_of s) (free_of s) M a name number op call begun b h e op.at refl q
-  steps M a name number (Evicting m) b e q h = sweeps (layout_of s) (place_of s) (free_of s) M a name number m b m.at refl e q h
+  steps M a name number (Busy op call begun) b e q h = at_step l p free M a name number op call begun b h e op.at refl q
+  steps M a name number (Evicting m) b e q h = sweeps l p free M a name number m b m.at refl e q h

@@ -19,12 +19,12 @@ use Rattle.flit_model.proofs.Elements.{flat_map-none}
 use Rattle.flit_model.proofs.CrashLaws.{crash_image_at, images_untagged}
 use Rattle.flit_place.specs.Tags.{Place}
 use Rattle.flit_place.specs.declared.writings.Writing.{Writing}
-use Rattle.flit_pv.specs.declared.exchanges.PExchange.{PExchange}
+use Rattle.flit_pv.specs.Exchanges.{HeldExchange}
 use Rattle.flit_pv.specs.declared.exchanges.Exchanging.{Exchanging}
 use Rattle.flit_pv.specs.declared.exchanges.Exchanging.TheVariants.{Ready, Tries, TriesBare, WritesBack, Withdraws, Lowers, Ended}
 use Rattle.flit_pv.specs.Exchanges.{writing_in}
 use Rattle.flit_runs.specs.Workings as run
-use Rattle.flit_runs.specs.Worlds.{Worker as Actor, writings, IsAway, IsNobodys}
+use Rattle.flit_runs.specs.Worlds.{Actor, writings, IsAway, IsNobodys}
 use Rattle.flit_runs.specs.Soundness.{HasWon}
 use Rattle.flit_runs.proofs.Growth.{shadow-same}
 use Rattle.flit_model.specs.declared.calls.Entry.{Entry}
@@ -35,24 +35,27 @@ use Rattle.flit_structure.specs.declared.workers.Doing.TheVariants.{Idle, Busy, 
 use Rattle.flit_structure.specs.declared.workers.Worker.{Worker}
 use Rattle.flit_structure.specs.Moments.{Moment, made}
 use Rattle.flit_structure.specs.Lawful.{HasMap, IsRecoverable, is_insert}
-use Rattle.flit_one_key.specs.declared.operations.At.{At}
-use Rattle.flit_one_key.specs.declared.operations.At.TheVariants.{Head, Key, Value, Row, Words, RowValue, Link, Ends, Rests}
-use Rattle.flit_one_key.specs.declared.operations.SampleOp.{SampleOp}
+use Rattle.flit_one_key.specs.Operations.{At}
+use Rattle.flit_one_key.specs.Operations.{Head, Key, Value, Row, Words, RowValue, Link, Ends, Rests}
+use Rattle.flit_one_key.specs.Operations.{HeldOp}
 use Rattle.flit_one_key.specs.Steps.{IsSmall, key_word, value_word, to_row}
-use Rattle.flit_one_key.specs.Knowledge.{Agrees, Acts, AllAct, Scene, scene_of, IsAt, KeepsPrivate, LinkKeeps, Story, untouched, filled, emptied, both, map_if, link_to, linked_after, row_key, row_value, row_link, all_rows, rows_of, rows_at, link_holds, first_spare, inserts, working_at, working_of}
+use Rattle.flit_one_key.specs.Knowledge.{OneKeyHolds, Acts, AllAct, Scene, scene_of, IsAt, KeepsPrivate, LinkKeeps, Story, untouched, filled, emptied, both, map_if, link_to, linked_after, row_key, row_value, row_link, all_rows, rows_of, rows_at, link_holds, first_spare, inserts, working_at, working_of}
 use Rattle.flit_one_key.proofs.Crashing.{takes, story_leads, value_bare}
 use Rattle.flit_one_key.proofs.Later.{not_both}
 
 -- ---- where the words stand
 
 words_are : (l : Layout) → IsSmall l → (c : ℕ) → l.buckets + parts_of l.kind * last_row_of l + c ≡ 3 + c
-words_are l small c = ap (λ k. l.buckets + parts_of k * (l.rows + (first_row_of k - 1)) + c) small.list ∙ three l.buckets l.rows c (subst (λ k. least_buckets k ≤ l.buckets) small.list small.accepted.least_bucket) (subst (λ k. l.buckets ≤ most_buckets k) small.list small.accepted.most_bucket) small.row
+words_are l small c = ap (λ k. l.buckets + parts_of k * (l.rows + (first_row_of k - 1)) + c) small.list
+    ∙ three l.buckets l.rows c (subst (λ k. least_buckets k ≤ l.buckets) small.list small.accepted.least_bucket)
+    (subst (λ k. l.buckets ≤ most_buckets k) small.list small.accepted.most_bucket) small.row
   where
     three : (b r c : ℕ) → 1 ≤ b → b ≤ 1 → r ≡ 1 → b + 2 * (r + (1 - 1)) + c ≡ 3 + c
     three b r c i j e = omega (arith, i, j, e)
 
 pub one_bucket : (l : Layout) → IsSmall l → l.buckets ≡ 1
-one_bucket l small = one l.buckets (subst (λ k. least_buckets k ≤ l.buckets) small.list small.accepted.least_bucket) (subst (λ k. l.buckets ≤ most_buckets k) small.list small.accepted.most_bucket)
+one_bucket l small = one l.buckets (subst (λ k. least_buckets k ≤ l.buckets) small.list small.accepted.least_bucket)
+    (subst (λ k. l.buckets ≤ most_buckets k) small.list small.accepted.most_bucket)
   where
     one : (b : ℕ) → 1 ≤ b → b ≤ 1 → b ≡ 1
     one b i j = omega (arith, i, j)
@@ -79,7 +82,10 @@ few_words l small = subst (λ n. 3 ≤ n) (sym (words_are l small (if l.values t
     more c = omega arith
 
 pub value_within : (l : Layout) → IsSmall l → l.values ≡ true → value_word l < words_of l
-value_within l small valued = subst (λ w. w < words_of l) (sym (value_at l small)) (subst (λ n. 3 < n) (sym (words_are l small (if l.values then last_row_of l else 0))) (subst (λ b. 3 < 3 + (if b then last_row_of l else 0)) (sym valued) (subst (λ r. 3 < 3 + (r + (first_row_of l.kind - 1))) (sym small.row) (more (first_row_of l.kind - 1)))))
+value_within l small valued = subst (λ w. w < words_of l) (sym (value_at l small))
+    (subst (λ n. 3 < n) (sym (words_are l small (if l.values then last_row_of l else 0)))
+    (subst (λ b. 3 < 3 + (if b then last_row_of l else 0)) (sym valued) (subst (λ r. 3 < 3 + (r + (first_row_of l.kind - 1))) (sym small.row)
+    (more (first_row_of l.kind - 1)))))
   where
     more : (c : ℕ) → 3 < 3 + (1 + c)
     more c = omega arith
@@ -96,7 +102,8 @@ plain_link : (l : Layout) (value : ℕ) → (value ≡ 0) ⊎ (value ≡ to_row)
 plain_link l value (inl e) = rw e (record { unfrozen = refl; remover = record { most = omega arith; named = inl refl } })
 plain_link l value (inr e) = rw e (record { unfrozen = refl; remover = record { most = omega arith; named = inl refl } })
 
-module _ (l : Layout) (small : IsSmall l) (image : List ℕ) (whole : length image ≡ words_of l) (untagged : (w : ℕ) → w < words_of l → is_tagged (slice_index image w) ≡ false) where
+module _ (l : Layout) (small : IsSmall l) (image : List ℕ) (whole : length image ≡ words_of l) (untagged : (w : ℕ) → w < words_of l →
+    is_tagged (slice_index image w) ≡ false) where
   first_bucket : (h : ℕ) → h < l.buckets → h ≡ 0
   first_bucket h lt = zeroth h l.buckets lt (one_bucket l small)
     where
@@ -222,12 +229,12 @@ at_private l call (Link m) private k z = link_private call m.at private (first_s
 at_private l call (Ends m) private k z = ⊎_elim (λ e. e) (λ e. absurd (not_both (first_spare m.fence.hand.spare) z e.0)) k
 at_private l call (Rests hand) private k z = k
 
-doing_private : (f : Scene) (g : Actor) (name number : ℕ) (d : Doing SampleOp) → IsAt f g name number d → rows_of d ≡ 0 → g.private ≡ []
+doing_private : (f : Scene) (g : Actor) (name number : ℕ) (d : Doing HeldOp) → IsAt f g name number d → rows_of d ≡ 0 → g.private ≡ []
 doing_private f g name number (Idle hand) k z = k.0
 doing_private f g name number (Busy op call begun) k z = at_private f.layout op.call op.at g.private k.2 z
 doing_private f g name number (Evicting m) k z = k.0
 
-pub no_private : (f : Scene) (us : List (Worker SampleOp)) (gs : List Actor) → AllAct f us gs → all_rows us ≡ 0 → (w : ℕ) → IsNobodys gs w
+pub no_private : (f : Scene) (us : List (Worker HeldOp)) (gs : List Actor) → AllAct f us gs → all_rows us ≡ 0 → (w : ℕ) → IsNobodys gs w
 no_private f [] [] h z w = tt
 no_private f [] (g ∷ gs) h z w = absurd h
 no_private f (u ∷ us) [] h z w = absurd h
@@ -239,7 +246,7 @@ no_private f (u ∷ us) (g ∷ gs) h z w =
     both_zero a b q = (omega (arith, q), omega (arith, q))
 
 -- each exchange under way is of the head
-link_word : (at : Exchanging) (m : PExchange) → m.word ≡ 0 → AllByRecursion (λ x. x.word ≡ 0) (option_to_list (writing_in at m))
+link_word : (at : Exchanging) (m : HeldExchange) → m.word ≡ 0 → AllByRecursion (λ x. x.word ≡ 0) (option_to_list (writing_in at m))
 link_word Ready m e = (e, tt)
 link_word (Tries slot) m e = (e, tt)
 link_word TriesBare m e = (e, tt)
@@ -248,11 +255,13 @@ link_word Withdraws m e = (e, tt)
 link_word (Lowers slot found) m e = (e, tt)
 link_word (Ended how) m e = tt
 
-doing_word : (f : Scene) (g : Actor) (name number : ℕ) (d : Doing SampleOp) → IsAt f g name number d → AllByRecursion (λ x. x.word ≡ 0) (option_to_list (run.writing_at (working_of d)))
+doing_word : (f : Scene) (g : Actor) (name number : ℕ) (d : Doing HeldOp) → IsAt f g name number d →
+    AllByRecursion (λ x. x.word ≡ 0) (option_to_list (run.writing_at (working_of d)))
 doing_word f g name number (Idle hand) k = tt
 doing_word f g name number (Busy op call begun) k = by_at op.at k.4
   where
-    by_at : (at : At) → Rattle.flit_one_key.specs.Knowledge.KnowsAt f g.needs name number call begun op.reply at → AllByRecursion (λ x. x.word ≡ 0) (option_to_list (run.writing_at (working_at at)))
+    by_at : (at : At) → Rattle.flit_one_key.specs.Knowledge.KnowsAt f g.needs name number call begun op.reply at →
+        AllByRecursion (λ x. x.word ≡ 0) (option_to_list (run.writing_at (working_at at)))
     by_at (Head m) k = tt
     by_at (Key head m) k = tt
     by_at (Value m) k = tt
@@ -268,13 +277,14 @@ won_head : (xs ys : List Writing) (w bare : ℕ) → AllByRecursion (λ x. x.wor
 won_head [] ys w bare h k = inr k
 won_head (x ∷ xs) ys w bare h k = ⊎_elim (λ e. inl (sym e.0 ∙ h.0)) (λ q. won_head xs ys w bare h.1 q) k
 
-pub won_at : (f : Scene) (us : List (Worker SampleOp)) (gs : List Actor) (w bare : ℕ) → AllAct f us gs → HasWon (writings gs) w bare → w ≡ 0
+pub won_at : (f : Scene) (us : List (Worker HeldOp)) (gs : List Actor) (w bare : ℕ) → AllAct f us gs → HasWon (writings gs) w bare → w ≡ 0
 won_at f [] [] w bare h k = absurd k
 won_at f [] (g ∷ gs) w bare h k = absurd h
 won_at f (u ∷ us) [] w bare h k = absurd h
 won_at f (u ∷ us) (g ∷ gs) w bare h k =
     ⊎_elim (λ e. e) (λ q. won_at f us gs w bare h.1 q)
-    (won_head (option_to_list (run.writing_at g.at)) (writings gs) w bare (subst (λ x. AllByRecursion (λ y. y.word ≡ 0) (option_to_list (run.writing_at x))) (sym h.0.at) (doing_word f g u.name u.number u.doing h.0.is_at)) k)
+    (won_head (option_to_list (run.writing_at g.at)) (writings gs) w bare (subst (λ x. AllByRecursion (λ y. y.word ≡ 0) (option_to_list (run.writing_at x)))
+    (sym h.0.at) (doing_word f g u.name u.number u.doing h.0.is_at)) k)
 
 value_kept : (picks : ℕ → Bool) (m : State) (w : ℕ) → bare_of (word_at m w) ≡ shadow_at m w → value_of (crash_word picks m w) ≡ value_of (word_at m w)
 value_kept picks m w e = by_test (picks w && is_ahead (word_at m w) (shadow_at m w))
@@ -300,25 +310,29 @@ first_insert k v e c rest = subst (λ x. 1 ≤ (if is_insert x then 1 else 0) + 
     one_more : (x : ℕ) → 1 ≤ 1 + x
     one_more x = omega arith
 
-story_some : (k v : ℕ) (b n : Bool) (es : List Entry) (free : List ℕ) (rows counter : ℕ) → length free ≤ 1 → (b ≡ true → free ≡ []) → Story k v b n es → rows + inserts es ≡ min counter (length free) → 1 ≤ length es → rows ≡ 0
+story_some : (k v : ℕ) (b n : Bool) (es : List Entry) (free : List ℕ) (rows counter : ℕ) → length free ≤ 1 → (b ≡ true → free ≡ []) → Story k v b n es →
+    rows + inserts es ≡ min counter (length free) → 1 ≤ length es → rows ≡ 0
 story_some k v b n es free rows counter most linked (untouched c) q j = absurd (omega (arith, j))
 story_some k v b n es free rows counter most linked (filled e c r) q j = rows_used rows _ counter (length free) q most (first_insert k v e c 0)
 story_some k v b n es free rows counter most linked (emptied d c r) q j = rows_none rows _ counter (length free) q (ap length (linked refl))
 story_some k v b n es free rows counter most linked (both e d c r c' r' l) q j = rows_used rows _ counter (length free) q most (first_insert k v e c _)
 
-pub story_rows : (k v : ℕ) (b n : Bool) (es : List Entry) (free : List ℕ) (rows counter : ℕ) → (free ≡ []) ⊎ (free ≡ 1 ∷ []) → (b ≡ true → free ≡ []) → Story k v b n es → rows + inserts es ≡ min counter (length free) → (b ≡ true) ⊎ (1 ≤ length es) → rows ≡ 0
+pub story_rows : (k v : ℕ) (b n : Bool) (es : List Entry) (free : List ℕ) (rows counter : ℕ) → (free ≡ []) ⊎ (free ≡ 1 ∷ []) → (b ≡ true → free ≡ []) →
+    Story k v b n es → rows + inserts es ≡ min counter (length free) → (b ≡ true) ⊎ (1 ≤ length es) → rows ≡ 0
 story_rows k v b n es free rows counter one linked story given (inl t) = rows_none rows (inserts es) counter (length free) given (ap length (linked t))
 story_rows k v b n es free rows counter one linked story given (inr some) = story_some k v b n es free rows counter (one_most free one) linked story given some
 
-module _ (l : Layout) (p : Place) (free : List ℕ) (M : Moment SampleOp) (h : Agrees l p free M) where
+module _ (l : Layout) (p : Place) (free : List ℕ) (M : Moment HeldOp) (h : OneKeyHolds l p free M) where
   f : Scene
   f = scene_of l p free M h.linked h.version
 
   sealed_bare : (h.linked ≡ true) ⊎ (1 ≤ length (made M.progress)) → (w : ℕ) → w ≢ 0 → bare_of (word_at M.state w) ≡ shadow_at M.state w
   sealed_bare sealed w other =
-      let rows : all_rows M.workers ≡ 0 = story_rows _ _ h.linked h.tells.now (made M.progress) free (all_rows M.workers) M.state.counter h.rows.one h.rows.linked h.tells.story h.rows.given sealed in
+      let rows : all_rows M.workers ≡ 0 = story_rows _ _ h.linked h.tells.now (made M.progress) free (all_rows M.workers) M.state.counter h.rows.one
+      h.rows.linked h.tells.story h.rows.given sealed in
       shadow-same false (word_at M.state w) (shadow_at M.state w) refl
-      (⊎_elim (λ k. k) (λ k. absurd (other (won_at (scene_of l p free M h.linked h.version) M.workers h.actors w _ h.acts k))) (h.sound.settled w refl (no_private (scene_of l p free M h.linked h.version) M.workers h.actors h.acts rows w)))
+      (⊎_elim (λ k. k) (λ k. absurd (other (won_at (scene_of l p free M h.linked h.version) M.workers h.actors w _ h.acts k)))
+      (h.sound.settled w refl (no_private (scene_of l p free M h.linked h.version) M.workers h.actors h.acts rows w)))
       (h.sound.words w)
 
   module _ (picks : ℕ → Bool) where
@@ -347,24 +361,32 @@ module _ (l : Layout) (p : Place) (free : List ℕ) (M : Moment SampleOp) (h : A
             less : (w n : ℕ) → w < 3 → 3 ≤ n → w < n
             less w n i j = omega (arith, i, j)
 
-        by_link : (b : Bool) → value_of (crash_word picks M.state 0) ≡ link_to b → (b ≡ true → (h.linked ≡ true) ⊎ (1 ≤ length (made M.progress))) → HasMap l image (map_if b (row_key l M.state) (row_value l M.state))
-        by_link false e s = unlinked l h.small image whole untagged (row_key l M.state) (row_value l M.state) (ap value_of (image_at 0 (below 0 (omega arith))) ∙ e)
+        by_link : (b : Bool) → value_of (crash_word picks M.state 0) ≡ link_to b → (b ≡ true → (h.linked ≡ true) ⊎ (1 ≤ length (made M.progress))) →
+            HasMap l image (map_if b (row_key l M.state) (row_value l M.state))
+        by_link false e s = unlinked l h.small image whole untagged (row_key l M.state) (row_value l M.state) (ap value_of (image_at 0 (below 0 (omega arith)))
+            ∙ e)
         by_link true e s =
             let seal = s refl in
             let key_here : key_word l ≡ 1 = key_at l h.small in
             let key_below : key_word l < words_of l = below (key_word l) (omega (arith, key_here)) in
             let next_below : key_word l + 1 < words_of l = below (key_word l + 1) (omega (arith, key_here)) in
-            let key_same : value_in image (key_word l) ≡ row_key l M.state = ap value_of (image_at (key_word l) key_below) ∙ value_kept picks M.state (key_word l) (sealed_bare seal (key_word l) (λ z. absurd (omega (arith, key_here, z)))) in
-            let next_same : value_in image (key_word l + 1) ≡ row_link l M.state = ap value_of (image_at (key_word l + 1) next_below) ∙ value_kept picks M.state (key_word l + 1) (sealed_bare seal (key_word l + 1) (λ z. absurd (omega (arith, z)))) in
+            let key_same : value_in image (key_word l) ≡ row_key l M.state = ap value_of (image_at (key_word l) key_below)
+            ∙ value_kept picks M.state (key_word l) (sealed_bare seal (key_word l) (λ z. absurd (omega (arith, key_here, z)))) in
+            let next_same : value_in image (key_word l + 1) ≡ row_link l M.state = ap value_of (image_at (key_word l + 1) next_below)
+            ∙ value_kept picks M.state (key_word l + 1) (sealed_bare seal (key_word l + 1) (λ z. absurd (omega (arith, z)))) in
             let facts = h.tells.sealed seal in
             let found = linked_map (key_word l) key_same next_same facts.0 facts.1 in
-            subst (λ v. HasMap l image (map_if true (row_key l M.state) v)) (value_same seal l.values refl) (subst (λ k. HasMap l image (map_if true k (row_value_in l image 1))) key_same found)
+            subst (λ v. HasMap l image (map_if true (row_key l M.state) v)) (value_same seal l.values refl)
+            (subst (λ k. HasMap l image (map_if true k (row_value_in l image 1))) key_same found)
           where
-            linked_map : (w : ℕ) → value_in image (key_word l) ≡ row_key l M.state → value_in image (key_word l + 1) ≡ row_link l M.state → row_key l M.state ≤ 4294967292 → row_link l M.state ≡ 0 → HasMap l image (map_if true (key_in l image 1) (row_value_in l image 1))
-            linked_map w i j k n = linked_image l h.small image whole untagged (ap value_of (image_at 0 (below 0 (omega arith))) ∙ e) (j ∙ n) (subst (λ x. x ≤ 4294967292) (sym i) k)
+            linked_map : (w : ℕ) → value_in image (key_word l) ≡ row_key l M.state → value_in image (key_word l + 1) ≡ row_link l M.state →
+                row_key l M.state ≤ 4294967292 → row_link l M.state ≡ 0 → HasMap l image (map_if true (key_in l image 1) (row_value_in l image 1))
+            linked_map w i j k n = linked_image l h.small image whole untagged (ap value_of (image_at 0 (below 0 (omega arith))) ∙ e) (j ∙ n)
+                (subst (λ x. x ≤ 4294967292) (sym i) k)
 
             value_same : (h.linked ≡ true) ⊎ (1 ≤ length (made M.progress)) → (b : Bool) → l.values ≡ b → row_value_in l image 1 ≡ row_value l M.state
-            value_same seal false none = ap (λ b. if b then value_in image (value_word l) else 0) none ∙ sym (ap (λ b. if b then value_of (word_at M.state (value_word l)) else 0) none)
+            value_same seal false none = ap (λ b. if b then value_in image (value_word l) else 0) none
+                ∙ sym (ap (λ b. if b then value_of (word_at M.state (value_word l)) else 0) none)
             value_same seal true some = ap (λ b. if b then value_in image (value_word l) else 0) some
                 ∙ ap value_of (image_at (value_word l) (value_within l h.small some))
                 ∙ value_kept picks M.state (value_word l) (sealed_bare seal (value_word l) (λ z. absurd (omega (arith, z, value_at l h.small))))
@@ -374,7 +396,8 @@ module _ (l : Layout) (p : Place) (free : List ℕ) (M : Moment SampleOp) (h : A
     recoverable =
         let t = takes (scene_of l p free M h.linked h.version) M.progress picks h.tells refl refl in
         let r = story_leads _ _ h.linked h.tells.now _ (M.progress.settled ++ taken_updates M.progress picks) t.rest h.tells.story t.first in
-        let content : map_after_all M.opening.content (M.progress.settled ++ taken_updates M.progress picks) ≡ map_if (linked_after h.linked (length (M.progress.settled ++ taken_updates M.progress picks))) (row_key l M.state) (row_value l M.state) =
+        let content : map_after_all M.opening.content (M.progress.settled ++ taken_updates M.progress picks) ≡ map_if
+        (linked_after h.linked (length (M.progress.settled ++ taken_updates M.progress picks))) (row_key l M.state) (row_value l M.state) =
         ap (λ m. map_after_all m (M.progress.settled ++ taken_updates M.progress picks)) h.tells.content ∙ r.content in
         record {
           legal = subst (λ m. Rattle.flit_model.specs.Maps.IsLegal m (M.progress.settled ++ taken_updates M.progress picks)) (sym h.tells.content) r.legal;

@@ -19,9 +19,9 @@ use Rattle.flit_model.proofs.Shapes.{free_rows-contains}
 use Rattle.flit_place.specs.Tags.{Place, IsSlot}
 use Rattle.flit_runs.proofs.Opening as runs
 use Rattle.flit_structure.specs.Moments.{Opening, Moment, first_moment}
-use Rattle.flit_one_key.specs.declared.operations.SampleOp.{SampleOp}
+use Rattle.flit_one_key.specs.Operations.{HeldOp}
 use Rattle.flit_one_key.specs.Steps.{IsSmall, key_word}
-use Rattle.flit_one_key.specs.Knowledge.{Agrees, Tells, Rows, scene_of, untouched, map_if, link_to, linked_after, row_key, row_value, row_link}
+use Rattle.flit_one_key.specs.Knowledge.{OneKeyHolds, Tells, Rows, scene_of, untouched, map_if, link_to, linked_after, row_key, row_value, row_link}
 use Rattle.flit_one_key.specs.OneKey.{Opens}
 use Rattle.flit_one_key.proofs.Uses.{made_none}
 use Rattle.flit_one_key.proofs.Images.{next_at, one_bucket}
@@ -54,7 +54,8 @@ one_row l image (r ∷ []) last h = record { linked = true; rows_are = ap (λ x.
     only : (r n : ℕ) → 1 ≤ r → r ≤ n → n ≡ 1 → r ≡ 1
     only r n i j e = omega (arith, i, j, e)
 one_row l image (r ∷ q ∷ rows) last h =
-    absurd (twice (key_in l image r) (key_in l image q) (ap (key_in l image) (same r q (last_row_of l) h.chain.1 h.chain.2 h.chain.3.1 h.chain.3.2 last)) h.rising.1.0)
+    absurd (twice (key_in l image r) (key_in l image q) (ap (key_in l image) (same r q (last_row_of l) h.chain.1 h.chain.2 h.chain.3.1 h.chain.3.2 last))
+    h.rising.1.0)
   where
     same : (r q n : ℕ) → 1 ≤ r → r ≤ n → 1 ≤ q → q ≤ n → n ≡ 1 → r ≡ q
     same r q n i j k m e = omega (arith, i, j, k, m, e)
@@ -62,8 +63,10 @@ one_row l image (r ∷ q ∷ rows) last h =
     twice : (a b : ℕ) → a ≡ b → suc a ≤ b → ⊥
     twice a b e i = omega (arith, e, i)
 
-untagged_all : (l : Layout) (image : List ℕ) → length image ≡ words_of l → ((w : ℕ) → w < words_of l → is_tagged (slice_index image w) ≡ false) → (w : ℕ) → is_tagged (slice_index image w) ≡ false
-untagged_all l image whole h w = ⊎_elim (λ lt. h w lt) (λ le. ap is_tagged (get_or_past image w 0 (subst (λ n. n ≤ w) (sym whole) le))) (cases_lt w (words_of l))
+untagged_all : (l : Layout) (image : List ℕ) → length image ≡ words_of l → ((w : ℕ) → w < words_of l → is_tagged (slice_index image w) ≡ false) → (w : ℕ) →
+    is_tagged (slice_index image w) ≡ false
+untagged_all l image whole h w = ⊎_elim (λ lt. h w lt) (λ le. ap is_tagged (get_or_past image w 0 (subst (λ n. n ≤ w) (sym whole) le)))
+    (cases_lt w (words_of l))
 
 pub zeros : (n slot : ℕ) → slice_index (replicate n 0) slot ≡ 0
 zeros zero slot = refl
@@ -98,7 +101,7 @@ module _ (l : Layout) (p : Place) (free : List ℕ) (o : Opening) (h : Opens l p
   built : (linked : Bool) → length o.words ≡ words_of l → ((w : ℕ) → is_tagged (slice_index o.words w) ≡ false) → value_in o.words 0 ≡ link_to linked →
       o.content ≡ map_if linked (value_in o.words (key_word l)) (row_value l (state_from l o.words)) →
       (linked ≡ true → (value_in o.words (key_word l) ≤ 4294967292) × (value_in o.words (key_word l + 1) ≡ 0)) →
-      (free ≡ []) ⊎ (free ≡ 1 ∷ []) → (linked ≡ true → free ≡ []) → Agrees l p free (first_moment l o)
+      (free ≡ []) ⊎ (free ≡ 1 ∷ []) → (linked ≡ true → free ≡ []) → OneKeyHolds l p free (first_moment l o)
   built linked whole untagged head content sealed one none = record {
     linked = linked;
     version = version;
@@ -106,7 +109,11 @@ module _ (l : Layout) (p : Place) (free : List ℕ) (o : Opening) (h : Opens l p
     small = small;
     whole = (whole, length_zeros l.slots);
     sound = runs.opens p (λ word. false) (record { state = state_from l o.words; workers = [] }) (record {
-      suits = record { whole = refl; slots = λ word lt. subst (λ n. IsSlot p.counted n (p.slot word)) (sym (length_zeros l.slots)) (h.slots word (subst (λ n. word < n) whole lt)) };
+      suits = record {
+        whole = refl;
+        slots = λ word lt. subst (λ n. IsSlot p.counted n (p.slot word)) (sym (length_zeros l.slots))
+            (h.slots word (subst (λ n. word < n) whole lt));
+      };
       persistent = refl;
       untagged = untagged;
       lowered = zeros l.slots;
@@ -115,7 +122,8 @@ module _ (l : Layout) (p : Place) (free : List ℕ) (o : Opening) (h : Opens l p
     });
     tells = record {
       now = linked;
-      story = subst (λ es. Rattle.flit_one_key.specs.Knowledge.Story (row_key l (state_from l o.words)) (row_value l (state_from l o.words)) linked linked es) (sym nothing) (untouched linked);
+      story = subst (λ es. Rattle.flit_one_key.specs.Knowledge.Story (row_key l (state_from l o.words)) (row_value l (state_from l o.words)) linked linked es)
+          (sym nothing) (untouched linked);
       content = content;
       head = (plus version _ (ap length nothing), head);
       shadow = (plus version 0 refl, head);
@@ -137,8 +145,8 @@ module _ (l : Layout) (p : Place) (free : List ℕ) (o : Opening) (h : Opens l p
     tagged = λ counted tag. absurd (false≢true (sym (untagged 0) ∙ tag));
   }
     where
-      nothing : Rattle.flit_structure.specs.Moments.made (first_moment {Op = SampleOp} l o).progress ≡ []
-      nothing = made_none (first_moment {Op = SampleOp} l o).progress refl
+      nothing : Rattle.flit_structure.specs.Moments.made (first_moment {Op = HeldOp} l o).progress ≡ []
+      nothing = made_none (first_moment {Op = HeldOp} l o).progress refl
 
       length_zeros : (n : ℕ) → length {A = ℕ} (replicate n 0) ≡ n
       length_zeros zero = refl
@@ -156,7 +164,8 @@ module _ (l : Layout) (p : Place) (free : List ℕ) (o : Opening) (h : Opens l p
       least : (n : ℕ) → 0 ≤ n
       least n = omega arith
 
-  module _ (chain : ℕ → List ℕ) (k : IsLawfulList l o.words chain) (content : o.content ≡ list_map l o.words chain) (rows : h.lawful.free ≡ free_rows l (Chains chain)) where
+  module _ (chain : ℕ → List ℕ) (k : IsLawfulList l o.words chain) (content : o.content ≡ list_map l o.words chain)
+      (rows : h.lawful.free ≡ free_rows l (Chains chain)) where
     on_chain : rows_on_chains l chain ≡ chain 0
     on_chain = ap (λ n. flat_map chain (range_with_len 0 n)) (one_bucket l small) ∙ append-nil (chain 0)
 
@@ -176,28 +185,30 @@ module _ (l : Layout) (p : Place) (free : List ℕ) (o : Opening) (h : Opens l p
     chained : IsLawfulChain l o.words 0 (chain 0)
     chained = k.chains 0 (subst (λ n. 0 < n) (sym (one_bucket l small)) (omega arith))
 
-    by_link : (b : Bool) → chain 0 ≡ (if b then 1 ∷ [] else []) → Agrees l p free (first_moment l o)
+    by_link : (b : Bool) → chain 0 ≡ (if b then 1 ∷ [] else []) → OneKeyHolds l p free (first_moment l o)
     by_link false is =
         let c : IsLawfulChain l o.words 0 [] = subst (IsLawfulChain l o.words 0) is chained in
         built false k.whole (untagged_all l o.words k.whole k.untagged) (plain_value l (value_in o.words 0) 0 c.links.0 c.unmarked c.chain)
         (content ∙ ap (λ rs. fin.from_entries (list_pairs l o.words rs)) (on_chain ∙ is)) (λ q. absurd (false≢true q)) one_free (λ q. absurd (false≢true q))
     by_link true is =
         let c : IsLawfulChain l o.words 0 (1 ∷ []) = subst (IsLawfulChain l o.words 0) is chained in
-        let unmarked : (link_in o.words (next_word l 1)).mark ≡ false = subst (λ w. (link_in o.words w).mark ≡ false) (sym (next_at l)) (h.unmarked (ap (λ (r : ℕ). r == 0) c.chain.0)) in
+        let unmarked : (link_in o.words (next_word l 1)).mark ≡ false = subst (λ w. (link_in o.words w).mark ≡ false) (sym (next_at l))
+        (h.unmarked (ap (λ (r : ℕ). r == 0) c.chain.0)) in
         let next : value_in o.words (next_word l 1) ≡ 4 * 0 = plain_value l (value_in o.words (next_word l 1)) 0 c.links.1.0 unmarked c.chain.3 in
         built true k.whole (untagged_all l o.words k.whole k.untagged) (plain_value l (value_in o.words 0) 1 c.links.0 c.unmarked c.chain.0)
-        (content ∙ ap (λ rs. fin.from_entries (list_pairs l o.words rs)) (on_chain ∙ is) ∙ ap (λ b. fin.from_entries (map (pair_in l o.words) (cond (not b) (1 ∷ []) []))) unmarked)
+        (content ∙ ap (λ rs. fin.from_entries (list_pairs l o.words rs)) (on_chain ∙ is)
+        ∙ ap (λ b. fin.from_entries (map (pair_in l o.words) (cond (not b) (1 ∷ []) []))) unmarked)
         (λ q. (c.within.0, sym (ap (value_in o.words) (next_at l)) ∙ next)) one_free (λ q. none_free is)
 
-    opened : Agrees l p free (first_moment l o)
+    opened : OneKeyHolds l p free (first_moment l o)
     opened = let r = one_row l o.words (chain 0) last_row chained in by_link r.linked r.rows_are
 
-  by_shape : (s : Shape) → IsLawfulAs l o.words s → o.content ≡ map_in l o.words s → h.lawful.free ≡ free_rows l s → Agrees l p free (first_moment l o)
+  by_shape : (s : Shape) → IsLawfulAs l o.words s → o.content ≡ map_in l o.words s → h.lawful.free ≡ free_rows l s → OneKeyHolds l p free (first_moment l o)
   by_shape (Chains chain) k content rows = opened chain k.1 content rows
   by_shape (Grown t) k content rows = absurd (other (sym small.list ∙ k.0))
     where
       other : List_kind ≡ Tree_kind → ⊥
       other q = cc
 
-  pub opens : Agrees l p free (first_moment l o)
+  pub opens : OneKeyHolds l p free (first_moment l o)
   opens = let r = h.lawful.recovers in by_shape r.shape r.lawful r.map r.free_rows

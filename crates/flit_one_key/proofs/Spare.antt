@@ -18,16 +18,16 @@ use Rattle.flit_pv.specs.declared.loads.Loading.TheVariants.{Reads as Load_reads
 use Rattle.flit_pv.specs.declared.exchanges.Exchanging.{Exchanging}
 use Rattle.flit_pv.specs.declared.exchanges.Exchanging.TheVariants.{Ready, Tries, TriesBare, WritesBack, Withdraws, Lowers, Ended}
 use Rattle.flit_runs.specs.Workings.{Dependency, writing_at, goes_for, load_goes_for, exchange_goes_for}
-use Rattle.flit_runs.specs.Worlds.{Worker as Actor, writings, IsAway, IsNobodys, IsSpare}
+use Rattle.flit_runs.specs.Worlds.{Actor, writings, IsAway, IsNobodys, IsSpare}
 use Rattle.flit_runs.specs.Soundness.{HasWon}
 use Rattle.flit_runs.proofs.Turns.{splits}
 use Rattle.flit_structure.specs.declared.workers.Doing.{Doing}
 use Rattle.flit_structure.specs.declared.workers.Doing.TheVariants.{Idle, Busy, Evicting}
 use Rattle.flit_structure.specs.declared.workers.Worker.{Worker}
 use Rattle.flit_structure.proofs.Names.{all_both}
-use Rattle.flit_one_key.specs.declared.operations.At.{At}
-use Rattle.flit_one_key.specs.declared.operations.At.TheVariants.{Head, Key, Value, Row, Words, RowValue, Link, Ends, Rests}
-use Rattle.flit_one_key.specs.declared.operations.SampleOp.{SampleOp}
+use Rattle.flit_one_key.specs.Operations.{At}
+use Rattle.flit_one_key.specs.Operations.{Head, Key, Value, Row, Words, RowValue, Link, Ends, Rests}
+use Rattle.flit_one_key.specs.Operations.{HeldOp}
 use Rattle.flit_one_key.specs.Steps.{IsSmall, key_word, value_word, links_none}
 use Rattle.flit_one_key.specs.Knowledge.{Scene, AllAct, KnowsAt, IsAt, Saw, all_rows, rows_of, working_at, working_of}
 use Rattle.flit_one_key.proofs.Actors.{join_acts}
@@ -78,7 +78,8 @@ link_goes (Lowers slot found) word w is other = ((λ e. other (sym is ∙ e)), t
 link_goes (Ended how) word w is other = tt
 
 module _ (f : Scene) (w : ℕ) (other : 0 ≢ w) where
-  at_goes : (needs : List Dependency) (name number : ℕ) (call : Call) (begun : Option ℕ) (reply : Reply) (at : At) → KnowsAt f needs name number call begun reply at → IsAway (goes_for (working_at at)) w
+  at_goes : (needs : List Dependency) (name number : ℕ) (call : Call) (begun : Option ℕ) (reply : Reply) (at : At) →
+      KnowsAt f needs name number call begun reply at → IsAway (goes_for (working_at at)) w
   at_goes needs name number call begun reply (Head m) k = load_goes m.at m.word w k.1 other
   at_goes needs name number call begun reply (Key head m) k = tt
   at_goes needs name number call begun reply (Value m) k = tt
@@ -89,12 +90,12 @@ module _ (f : Scene) (w : ℕ) (other : 0 ≢ w) where
   at_goes needs name number call begun reply (Ends m) k = tt
   at_goes needs name number call begun reply (Rests hand) k = tt
 
-  doing_goes : (g : Actor) (name number : ℕ) (d : Doing SampleOp) → IsAt f g name number d → IsAway (goes_for (working_of d)) w
+  doing_goes : (g : Actor) (name number : ℕ) (d : Doing HeldOp) → IsAt f g name number d → IsAway (goes_for (working_of d)) w
   doing_goes g name number (Idle hand) k = tt
   doing_goes g name number (Busy op call begun) k = at_goes g.needs name number call begun op.reply op.at k.4
   doing_goes g name number (Evicting m) k = tt
 
-  pub all_go : (us : List (Worker SampleOp)) (gs : List Actor) → AllAct f us gs → AllByRecursion (λ o. IsAway (goes_for o.at) w) gs
+  pub all_go : (us : List (Worker HeldOp)) (gs : List Actor) → AllAct f us gs → AllByRecursion (λ o. IsAway (goes_for o.at) w) gs
   all_go [] [] h = tt
   all_go [] (g ∷ gs) h = absurd h
   all_go (u ∷ us) [] h = absurd h
@@ -102,13 +103,14 @@ module _ (f : Scene) (w : ℕ) (other : 0 ≢ w) where
 
 -- ---- nobody else has the row
 
-module _ (f : Scene) (p : Progress) (a : List (Worker SampleOp)) (u v : Worker SampleOp) (b : List (Worker SampleOp)) (xs : List Actor) (g : Actor) (ys : List Actor)
+module _ (f : Scene) (p : Progress) (a : List (Worker HeldOp)) (u v : Worker HeldOp) (b : List (Worker HeldOp)) (xs : List Actor) (g : Actor) (ys : List Actor)
     (st : Stands f p a u v b xs g ys) (row : rows_of v.doing ≡ 1) where
   alone : (all_rows a ≡ 0) × (all_rows b ≡ 0)
   alone = others_rows f a b v st.rows row
 
   -- a head that any call has seen links no row
-  pub sees_none : (needs : List Dependency) (name number : ℕ) (call : Call) (begun : Option ℕ) (head : ℕ) → Saw f needs name number call begun head → links_none head ≡ true
+  pub sees_none : (needs : List Dependency) (name number : ℕ) (call : Call) (begun : Option ℕ) (head : ℕ) → Saw f needs name number call begun head →
+      links_none head ≡ true
   sees_none needs name number call begun head saw =
       let never = unlinked f a b v st.rows st.tells.now st.tells.story row in
       seen_none f.linked saw.index (length f.made) head never.0 (ap length never.1) saw.within saw.links
@@ -120,7 +122,8 @@ module _ (f : Scene) (p : Progress) (a : List (Worker SampleOp)) (u v : Worker S
   module _ (quiet : writing_at g.at ≡ None) (w : ℕ) (other : 0 ≢ w) (within : w < length f.state.words) (away : IsAway g.private w) where
     not_won : HasWon (writings (xs ++ g ∷ ys)) w (bare_of (word_at f.state w)) → ⊥
     not_won h = other (sym (won_at f (a ++ b) (xs ++ ys) w (bare_of (word_at f.state w)) (join_acts f a b xs ys st.left st.right)
-        (subst (λ ws. HasWon ws w (bare_of (word_at f.state w))) (splits xs g ys ∙ ap (λ o. writings xs ++ (option_to_list o ++ writings ys)) quiet ∙ sym (flat_map-append (λ me. option_to_list (writing_at me.at)) xs ys)) h)))
+        (subst (λ ws. HasWon ws w (bare_of (word_at f.state w))) (splits xs g ys ∙ ap (λ o. writings xs ++ (option_to_list o ++ writings ys)) quiet
+        ∙ sym (flat_map-append (λ me. option_to_list (writing_at me.at)) xs ys)) h)))
 
     kept : version_of (word_at f.state w) ≡ version_of (shadow_at f.state w)
     kept = between (version_of (word_at f.state w)) (version_of (shadow_at f.state w))
@@ -135,6 +138,7 @@ module _ (f : Scene) (p : Progress) (a : List (Worker SampleOp)) (u v : Worker S
       within = within;
       plain = refl;
       persistent = kept;
-      unreached = all_zip (λ o. IsAway o.private w) (λ o. IsAway (goes_for o.at) w) (λ o. IsAway o.private w × IsAway (goes_for o.at) w) (λ o x y. (x, y)) (xs ++ ys) (others_away w)
+      unreached = all_zip (λ o. IsAway o.private w) (λ o. IsAway (goes_for o.at) w) (λ o. IsAway o.private w × IsAway (goes_for o.at) w) (λ o x y. (x, y))
+          (xs ++ ys) (others_away w)
           (all_both (λ o. IsAway (goes_for o.at) w) xs ys (all_go f w other a xs st.left) (all_go f w other b ys st.right));
     }

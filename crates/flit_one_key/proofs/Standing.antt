@@ -10,18 +10,19 @@ use Rattle.flit_model.specs.declared.calls.Call.{Call}
 use Rattle.flit_model.specs.declared.calls.Entry.{Entry}
 use Rattle.flit_pv.specs.declared.hands.Hand.{Hand}
 use Rattle.flit_runs.specs.Workings.{Idles}
-use Rattle.flit_runs.specs.Worlds.{Worker as Actor, world_of, IsAway}
+use Rattle.flit_runs.specs.Worlds.{Actor, world_of, IsAway}
 use Rattle.flit_runs.specs.Soundness.{IsSound}
 use Rattle.flit_structure.specs.declared.workers.Worker.{Worker}
 use Rattle.flit_structure.specs.Moments.{made, HaveDifferentNames}
 use Rattle.flit_structure.specs.Meanings.{first_at, IsServed}
-use Rattle.flit_one_key.specs.declared.operations.SampleOp.{SampleOp}
+use Rattle.flit_one_key.specs.Operations.{HeldOp}
 use Rattle.flit_one_key.specs.Steps.{IsSmall}
 use Rattle.flit_one_key.specs.Knowledge.{Scene, Tells, Rows, Acts, AllAct, HasNumber, IsOwner, IsAny, Tags, hand_in, rows_of}
 
 -- all that is true of a scene in which one worker stands as `v` among others that act; the update that waits, and the
 -- tag of the head, are accounted for by the workers with `u` in its place
-pub record Stands (f : Scene) (p : Progress) (a : List (Worker SampleOp)) (u v : Worker SampleOp) (b : List (Worker SampleOp)) (xs : List Actor) (g : Actor) (ys : List Actor) : Type 0 where
+pub record Stands (f : Scene) (p : Progress) (a : List (Worker HeldOp)) (u v : Worker HeldOp) (b : List (Worker HeldOp)) (xs : List Actor) (g : Actor)
+    (ys : List Actor) : Type 0 where
   pub small : IsSmall f.layout
   pub whole : (length f.state.words ≡ words_of f.layout) × (length f.state.slots ≡ f.layout.slots)
   pub is_made : f.made ≡ made p
@@ -50,7 +51,7 @@ pub record Rests (f : Scene) (name number : ℕ) (call : Call) (begun : Option �
   pub under_way : begun ≢ None
 
 -- a worker in the place of another, with as many rows and its ticket; a row that was linked is no longer spare
-pub record Follows (u v : Worker SampleOp) : Type 0 where
+pub record Follows (u v : Worker HeldOp) : Type 0 where
   pub name : v.name ≡ u.name
   pub number : u.number ≤ v.number
   pub rows : rows_of v.doing ≡ rows_of u.doing
@@ -58,7 +59,7 @@ pub record Follows (u v : Worker SampleOp) : Type 0 where
   pub ticket : (hand_in v.doing).ticket ≡ (hand_in u.doing).ticket
 
 -- another worker in the place of one: with the same name, rows and ticket
-pub record Replaces (u w : Worker SampleOp) : Type 0 where
+pub record Replaces (u w : Worker HeldOp) : Type 0 where
   pub name : w.name ≡ u.name
   pub number : u.number ≤ w.number
   pub rows : rows_of w.doing ≡ rows_of u.doing
@@ -66,7 +67,7 @@ pub record Replaces (u w : Worker SampleOp) : Type 0 where
   pub ticket : (hand_in w.doing).ticket ≡ (hand_in u.doing).ticket
 
 -- the worker goes on as `w`, with its machine, in a sound world
-pub record Arrives (f : Scene) (v : Worker SampleOp) (xs ys : List Actor) (w : Worker SampleOp) : Type 0 where
+pub record Arrives (f : Scene) (v : Worker HeldOp) (xs ys : List Actor) (w : Worker HeldOp) : Type 0 where
   pub actor : Actor
   pub sound : IsSound f.place (λ word. false) (world_of f.state xs actor ys)
   pub acts : Acts f w actor

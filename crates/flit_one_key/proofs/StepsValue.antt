@@ -9,7 +9,7 @@ use Rattle.flit_model.specs.declared.events.Event.TheVariants.{Store}
 use Rattle.flit_model.specs.declared.calls.Call.{Call}
 use Rattle.flit_place.specs.Tags.{Place}
 use Rattle.flit_pv.specs.declared.queues.Noted.{Noted}
-use Rattle.flit_pv.specs.declared.stores.PrivateStore.{PrivateStore}
+use Rattle.flit_pv.specs.Stores.{HeldStore}
 use Rattle.flit_pv.specs.declared.stores.Storing.{Storing}
 use Rattle.flit_pv.specs.declared.stores.Storing.TheVariants.{Reads as Store_reads, MakesRoom as Store_makes_room, Writes, Ended as Store_ended}
 use Rattle.flit_pv.specs.declared.stores.Stored.{Stored as How_stored}
@@ -17,13 +17,13 @@ use Rattle.flit_pv.specs.declared.stores.Stored.TheVariants.{Stored as All_store
 use Rattle.flit_pv.specs.Hands.{with_pair}
 use Rattle.flit_pv.specs.Stores.{store_takes, store_next}
 use Rattle.flit_runs.specs.Workings.{Dependency}
-use Rattle.flit_runs.specs.Worlds.{Worker as Actor, gone_on}
+use Rattle.flit_runs.specs.Worlds.{Actor, gone_on}
 use Rattle.flit_runs.proofs.Growth.{word-here, word-other}
 use Rattle.flit_structure.specs.declared.workers.Worker.{Worker}
 use Rattle.flit_structure.specs.Moments.{Moment}
 use Rattle.flit_structure.specs.Meanings.{value_put}
-use Rattle.flit_one_key.specs.declared.operations.At.TheVariants.{RowValue}
-use Rattle.flit_one_key.specs.declared.operations.SampleOp.{SampleOp}
+use Rattle.flit_one_key.specs.Operations.{RowValue}
+use Rattle.flit_one_key.specs.Operations.{HeldOp}
 use Rattle.flit_one_key.specs.Steps.{key_word, value_word, taken_at, row_value_by, row_value_next}
 use Rattle.flit_one_key.specs.Knowledge.{Scene, KnowsAt, Inserting, HasWords, StoresValue, first_spare, rows_at}
 use Rattle.flit_one_key.proofs.Spare.{value_positive, key_apart, link_apart}
@@ -36,15 +36,17 @@ use Rattle.flit_one_key.proofs.StoreCarrying.{Stood, actor_at, scene_at, IsToWri
 pub in_value : (head : ℕ) → IsStoring (RowValue head)
 in_value head = record { working = λ x. refl; hand = λ x. refl; rows = λ c x. refl; first = λ x k. k; tags = λ bare x k. k }
 
-module _ (l : Layout) (p : Place) (free : List ℕ) (a : List (Worker SampleOp)) (name number : ℕ) (op : SampleOp) (call : Call) (begun : Option ℕ) (b : List (Worker SampleOp)) (head : ℕ) (m : PrivateStore) (at : op.at ≡ RowValue head m) where
-  module _ (N : Moment SampleOp) (h : Stood l p free a name number op call begun b (RowValue head) (in_value head) m at N) where
+module _ (l : Layout) (p : Place) (free : List ℕ) (a : List (Worker HeldOp)) (name number : ℕ) (op : HeldOp) (call : Call) (begun : Option ℕ)
+    (b : List (Worker HeldOp)) (head : ℕ) (m : HeldStore) (at : op.at ≡ RowValue head m) where
+  module _ (N : Moment HeldOp) (h : Stood l p free a name number op call begun b (RowValue head) (in_value head) m at N) where
     abbrev me : Actor
     me = actor_at l p free a name number op call begun b (RowValue head) (in_value head) m at N h
 
     abbrev f : State → Scene
     f s = scene_at l p free a name number op call begun b (RowValue head) (in_value head) m at N h s
 
-    abbrev mine_at : Rattle.flit_one_key.specs.Knowledge.IsAt (f N.state) me name number (Rattle.flit_structure.specs.declared.workers.Doing.TheVariants.Busy op call begun)
+    abbrev mine_at : Rattle.flit_one_key.specs.Knowledge.IsAt (f N.state) me name number
+        (Rattle.flit_structure.specs.declared.workers.Doing.TheVariants.Busy op call begun)
     mine_at = (r l p free N a name number op call begun b h (RowValue head) (in_value head) m at).mine.is_at
 
     known : KnowsAt (f N.state) me.needs name number call begun op.reply (RowValue head m)
@@ -53,58 +55,84 @@ module _ (l : Layout) (p : Place) (free : List ℕ) (a : List (Worker SampleOp))
     known_at : (t : Storing) → m.at ≡ t → StoresValue (f N.state) me.needs name number call begun t m
     known_at t is = subst (λ x. StoresValue (f N.state) me.needs name number call begun x m) is known.2
 
-    value_go : (e : Event) (k : ℕ) (s : State) (x : PrivateStore) → Stored l p free N a name number op call begun b h (RowValue head) (in_value head) m at s (gone_on p N.state e [] me) x →
-        (t : Storing) → x.at ≡ t → HasWords (f s) (gone_on p N.state e [] me).needs name number call begun → AfterValue (f s) (gone_on p N.state e [] me).needs name number call begun t x → Gone l p free N a name number op call begun b h k s (row_value_by l op head x t)
+    value_go : (e : Event) (k : ℕ) (s : State) (x : HeldStore) → Stored l p free N a name number op call begun b h (RowValue head) (in_value head) m at s
+        (gone_on p N.state e [] me) x →
+        (t : Storing) → x.at ≡ t → HasWords (f s) (gone_on p N.state e [] me).needs name number call begun →
+        AfterValue (f s) (gone_on p N.state e [] me).needs name number call begun t x →
+        Gone l p free N a name number op call begun b h k s (row_value_by l op head x t)
     value_go e k s x now t is words knows = by_stage t is knows
       where
         ins : Inserting (f s) (gone_on p N.state e [] me).needs name number call begun head x.hand
         ins = inserting_on (f N.state) s _ me.needs name number call begun head m.hand x.hand now.stays.spare known.0
 
-        still : StoresValue (f s) (gone_on p N.state e [] me).needs name number call begun x.at x → Gone l p free N a name number op call begun b h k s (record op { at = RowValue head x })
-        still q = on_store l p free N a name number op call begun b h (RowValue head) (in_value head) m at k s (gone_on p N.state e [] me) x now (ap first_spare ins.row) (ins, words, q, now.stays.limit ∙ known.3, known.4)
+        still : StoresValue (f s) (gone_on p N.state e [] me).needs name number call begun x.at x →
+            Gone l p free N a name number op call begun b h k s (record op { at = RowValue head x })
+        still q = on_store l p free N a name number op call begun b h (RowValue head) (in_value head) m at k s (gone_on p N.state e [] me) x now
+            (ap first_spare ins.row) (ins, words, q, now.stays.limit ∙ known.3, known.4)
 
-        by_stage : (t : Storing) → x.at ≡ t → AfterValue (f s) (gone_on p N.state e [] me).needs name number call begun t x → Gone l p free N a name number op call begun b h k s (row_value_by l op head x t)
+        by_stage : (t : Storing) → x.at ≡ t → AfterValue (f s) (gone_on p N.state e [] me).needs name number call begun t x →
+            Gone l p free N a name number op call begun b h k s (row_value_by l op head x t)
         by_stage (Store_reads how) is q = still (subst (λ y. StoresValue (f s) (gone_on p N.state e [] me).needs name number call begun y x) (sym is) q)
         by_stage (Writes next) is q = still (subst (λ y. StoresValue (f s) (gone_on p N.state e [] me).needs name number call begun y x) (sym is) q)
-        by_stage (Store_makes_room next first) is q = still (subst (λ y. StoresValue (f s) (gone_on p N.state e [] me).needs name number call begun y x) (sym is) q)
-        by_stage (Store_ended All_stored) is q = end_store l p free N a name number op call begun b h (RowValue head) (in_value head) m at k s (gone_on p N.state e [] me) x now All_stored is _
+        by_stage (Store_makes_room next first) is q = still (subst (λ y. StoresValue (f s) (gone_on p N.state e [] me).needs name number call begun y x)
+            (sym is) q)
+        by_stage (Store_ended All_stored) is q = end_store l p free N a name number op call begun b h (RowValue head) (in_value head) m at k s
+            (gone_on p N.state e [] me) x now All_stored is _
             (λ st rests. inserting (f s) N.progress a _ name number x.hand b _ _ _ st op call begun mine_at.0 rests head ins words q)
-        by_stage (Store_ended (Store_worn word version)) is q = end_store l p free N a name number op call begun b h (RowValue head) (in_value head) m at k s (gone_on p N.state e [] me) x now (Store_worn word version) is _
-            (λ st rests. worn_out (f s) N.progress a _ name number x.hand b _ _ _ st op call begun mine_at.0 rests word version ins.fresh q.0 (inl q.1) (inr (ap first_spare ins.row)))
+        by_stage (Store_ended (Store_worn word version)) is q = end_store l p free N a name number op call begun b h (RowValue head) (in_value head) m at k s
+            (gone_on p N.state e [] me) x now (Store_worn word version) is _
+            (λ st rests. worn_out (f s) N.progress a _ name number x.hand b _ _ _ st op call begun mine_at.0 rests word version ins.fresh q.0 (inl q.1)
+            (inr (ap first_spare ins.row)))
 
     words_still : (needs : List Dependency) → HasWords (f N.state) needs name number call begun
     words_still needs = record { key = known.1.key; link = known.1.link }
 
-    value_load : (needs : List Dependency) (how : How_stored) → m.at ≡ Store_reads how → AfterValue (f N.state) needs name number call begun (store_takes (Store_reads how) m (word_at N.state m.drafts.word)).at (store_takes (Store_reads how) m (word_at N.state m.drafts.word))
+    value_load : (needs : List Dependency) (how : How_stored) → m.at ≡ Store_reads how →
+        AfterValue (f N.state) needs name number call begun (store_takes (Store_reads how) m (word_at N.state m.drafts.word)).at
+        (store_takes (Store_reads how) m (word_at N.state m.drafts.word))
     value_load needs how is =
         let k = known_at (Store_reads how) is in
-        value_read (f N.state) needs name number call begun m (word_at N.state m.drafts.word) known.3 (drafted l p free N a name number op call begun b h (RowValue head) (in_value head) m at how is (value_put call) [] k.2) how k mine_at.1.fits
+        value_read (f N.state) needs name number call begun m (word_at N.state m.drafts.word) known.3
+        (drafted l p free N a name number op call begun b h (RowValue head) (in_value head) m at how is (value_put call) [] k.2) how k mine_at.1.fits
 
-    to_write : (n : Noted) → IsToWrite l p free a name number op call begun b (RowValue head) (in_value head) m at n → StoresValue (f N.state) me.needs name number call begun (Writes n) m
+    to_write : (n : Noted) → IsToWrite l p free a name number op call begun b (RowValue head) (in_value head) m at n →
+        StoresValue (f N.state) me.needs name number call begun (Writes n) m
     to_write n (inl is) = known_at (Writes n) is
     to_write n (inr is) = known_at (Store_makes_room n is.0) is.1
 
     -- the value is stored, beside the key and the link
     value_store : (needs : List Dependency) (n : Noted) → m.at ≡ Writes n → StoresValue (f N.state) me.needs name number call begun (Writes n) m →
         (0 ≢ n.word) × HasWords (f (after N.state (Store n.word n.kept))) needs name number call begun
-        × AfterValue (f (after N.state (Store n.word n.kept))) needs name number call begun (store_next (record m { hand = with_pair m.hand n }) m.drafts.ready).at (store_next (record m { hand = with_pair m.hand n }) m.drafts.ready)
+        × AfterValue (f (after N.state (Store n.word n.kept))) needs name number call begun
+        (store_next (record m { hand = with_pair m.hand n }) m.drafts.ready).at (store_next (record m { hand = with_pair m.hand n }) m.drafts.ready)
     value_store needs n is k = (
       (λ e. value_positive l h.small (e ∙ k.0.0)),
       record {
-        key = ap value_of (word-other N.state n.word n.kept (key_word l) (writes_within l p free N a name number op call begun b h (RowValue head) (in_value head) m at n is) (λ e. key_apart l h.small (e ∙ k.0.0))) ∙ known.1.key;
-        link = ap value_of (word-other N.state n.word n.kept (key_word l + 1) (writes_within l p free N a name number op call begun b h (RowValue head) (in_value head) m at n is) (λ e. link_apart l h.small (e ∙ k.0.0))) ∙ known.1.link;
+        key = ap value_of (word-other N.state n.word n.kept (key_word l) (writes_within l p free N a name number op call begun b h (RowValue head)
+            (in_value head) m at n is) (λ e. key_apart l h.small (e ∙ k.0.0))) ∙ known.1.key;
+        link = ap value_of (word-other N.state n.word n.kept (key_word l + 1)
+            (writes_within l p free N a name number op call begun b h (RowValue head) (in_value head) m at n is) (λ e. link_apart l h.small (e ∙ k.0.0)))
+            ∙ known.1.link;
       },
-      subst (λ xs. AfterValue (f (after N.state (Store n.word n.kept))) needs name number call begun (store_next (record m { hand = with_pair m.hand n }) xs).at (store_next (record m { hand = with_pair m.hand n }) xs)) (sym k.1)
+      subst (λ xs. AfterValue (f (after N.state (Store n.word n.kept))) needs name number call begun (store_next (record m { hand = with_pair m.hand n }) xs).at
+          (store_next (record m { hand = with_pair m.hand n }) xs)) (sym k.1)
           (subst (λ t. (if t then value_of (word_at (after N.state (Store n.word n.kept)) (value_word l)) else 0) ≡ value_put call) (sym known.4)
-          (subst (λ w. value_of (word_at (after N.state (Store n.word n.kept)) w) ≡ value_put call) k.0.0 (ap value_of (word-here N.state n.word n.kept (writes_within l p free N a name number op call begun b h (RowValue head) (in_value head) m at n is)) ∙ k.0.1))),
+          (subst (λ w. value_of (word_at (after N.state (Store n.word n.kept)) w) ≡ value_put call) k.0.0
+          (ap value_of (word-here N.state n.word n.kept (writes_within l p free N a name number op call begun b h (RowValue head) (in_value head) m at n
+          is)) ∙ k.0.1))),
     )
 
-  pub carries_value : Carries l p free a name number op call begun b (RowValue head) (in_value head) m at (λ x. row_value_next l op head x) (λ g needs t x. HasWords g needs name number call begun × AfterValue g needs name number call begun t x)
+  pub carries_value : Carries l p free a name number op call begun b (RowValue head) (in_value head) m at (λ x. row_value_next l op head x)
+      (λ g needs t x. HasWords g needs name number call begun × AfterValue g needs name number call begun t x)
   carries_value = record {
     taken = λ told. ap (λ x. taken_at l p free op x told) at;
     row = λ N h. ap (rows_at op.call) at ∙ ap first_spare (known N h).0.row;
     reads = λ N h needs how is. (words_still N h needs, value_load N h needs how is);
-    room = λ N h needs n write hand queue. (words_still N h needs, value_room (f N h N.state) needs name number call begun (record m { hand = hand }) n queue (to_write N h n write));
+    room = λ N h needs n write hand queue. (
+      words_still N h needs,
+      value_room (f N h N.state) needs name number call begun (record m { hand = hand }) n queue
+          (to_write N h n write),
+    );
     writes = λ N h needs n is. let k = value_store N h needs n is (known_at N h (Writes n) is) in (k.0, (k.1, k.2));
     goes = λ N h e k s x now knows. value_go N h e k s x now x.at refl knows.0 knows.1;
   }

@@ -9,22 +9,22 @@ use Rattle.flit_model.specs.declared.events.Event.{Event}
 use Rattle.flit_model.specs.declared.calls.Call.{Call}
 use Rattle.flit_place.specs.Tags.{Place}
 use Rattle.flit_pv.specs.declared.queues.Noted.{Noted}
-use Rattle.flit_pv.specs.declared.stores.PrivateStore.{PrivateStore}
+use Rattle.flit_pv.specs.Stores.{HeldStore}
 use Rattle.flit_pv.specs.declared.stores.Storing.{Storing}
 use Rattle.flit_pv.specs.declared.stores.Storing.TheVariants.{Reads as Store_reads, Writes, Ended as Store_ended}
 use Rattle.flit_pv.specs.Stores.{store_asks, store_takes}
 use Rattle.flit_runs.specs.Workings as run
 use Rattle.flit_runs.specs.Worlds as world
-use Rattle.flit_runs.specs.Worlds.{Worker as Actor, IsAway, IsAmong, gone_on}
-use Rattle.flit_runs.specs.Soundness.{Knows, StoreKnows, MayBeDrafted, MayWriteBack, IsPlain, store_owed, owed}
+use Rattle.flit_runs.specs.Worlds.{Actor, IsAway, IsAmong, gone_on}
+use Rattle.flit_runs.specs.Soundness.{Knows, StoreKnows, MayBeDrafted, MayWriteBack, IsPWord, store_owed, owed}
 use Rattle.flit_runs.proofs.ExchangeSteps.{around}
 use Rattle.flit_runs.proofs.Lists.{all_among}
 use Rattle.flit_structure.specs.declared.workers.Worker.{Worker}
 use Rattle.flit_structure.specs.Moments.{Moment, with_workers, busy, idle}
-use Rattle.flit_one_key.specs.declared.operations.At.{At}
-use Rattle.flit_one_key.specs.declared.operations.SampleOp.{SampleOp}
+use Rattle.flit_one_key.specs.Operations.{At}
+use Rattle.flit_one_key.specs.Operations.{HeldOp}
 use Rattle.flit_one_key.specs.Steps.{hand_at}
-use Rattle.flit_one_key.specs.Knowledge.{Agrees, KnowsAt, KeepsPrivate, TagsAt, IsFirst, first_spare, rows_at, working_at}
+use Rattle.flit_one_key.specs.Knowledge.{OneKeyHolds, KnowsAt, KeepsPrivate, TagsAt, IsFirst, first_spare, rows_at, working_at}
 use Rattle.flit_one_key.proofs.Actors.{Split}
 use Rattle.flit_one_key.proofs.Replacing.{mine}
 use Rattle.flit_one_key.proofs.Standing.{Stands, Rests, Arrives}
@@ -33,16 +33,18 @@ use Rattle.flit_one_key.proofs.CallGoing.{scene, IsSoundWith, Gone, Frame, sound
 use Rattle.flit_one_key.proofs.StoreMoves.{Stays, store_stays}
 
 -- a place of a call where its machine is a private store
-pub record IsStoring (C : PrivateStore → At) : Type 0 where
-  pub working : (x : PrivateStore) → working_at (C x) ≡ run.Stores x
-  pub hand : (x : PrivateStore) → hand_at (C x) ≡ x.hand
-  pub rows : (c : Call) (x : PrivateStore) → rows_at c (C x) ≡ first_spare x.hand.spare
-  pub first : (x : PrivateStore) → IsFirst (C x) → ⊥
-  pub tags : (bare : ℕ) (x : PrivateStore) → TagsAt bare (C x) → ⊥
+pub record IsStoring (C : HeldStore → At) : Type 0 where
+  pub working : (x : HeldStore) → working_at (C x) ≡ run.Stores x
+  pub hand : (x : HeldStore) → hand_at (C x) ≡ x.hand
+  pub rows : (c : Call) (x : HeldStore) → rows_at c (C x) ≡ first_spare x.hand.spare
+  pub first : (x : HeldStore) → IsFirst (C x) → ⊥
+  pub tags : (bare : ℕ) (x : HeldStore) → TagsAt bare (C x) → ⊥
 
-module _ (l : Layout) (p : Place) (free : List ℕ) (M : Moment SampleOp) (a : List (Worker SampleOp)) (name number : ℕ) (op : SampleOp) (call : Call) (begun : Option ℕ) (b : List (Worker SampleOp))
-    (h : Agrees l p free (with_workers M (a ++ busy name number op call begun ∷ b))) (C : PrivateStore → At) (kind : IsStoring C) (m : PrivateStore) (at : op.at ≡ C m) where
-  abbrev pub u : Worker SampleOp
+module _ (l : Layout) (p : Place) (free : List ℕ) (M : Moment HeldOp) (a : List (Worker HeldOp)) (name number : ℕ) (op : HeldOp) (call : Call)
+    (begun : Option ℕ) (b : List (Worker HeldOp))
+    (h : OneKeyHolds l p free (with_workers M (a ++ busy name number op call begun ∷ b))) (C : HeldStore → At) (kind : IsStoring C) (m : HeldStore)
+    (at : op.at ≡ C m) where
+  abbrev pub u : Worker HeldOp
   u = busy name number op call begun
 
   abbrev pub r : Split (scene l p free M a name number op call begun b h M.state) a u b h.actors
@@ -55,32 +57,38 @@ module _ (l : Layout) (p : Place) (free : List ℕ) (M : Moment SampleOp) (a : L
   stored_by = r.mine.at ∙ ap working_at at ∙ kind.working m
 
   pub store_knows : StoreKnows M.state r.actor.private m.at m
-  store_knows = subst (Knows p (λ x. false) M.state (around (world.writings r.before) (run.writing_at r.actor.at) (world.writings r.behind)) r.actor.private) stored_by (is_safe l p free M a name number op call begun b h).knows
+  store_knows = subst (Knows p (λ x. false) M.state (around (world.writings r.before) (run.writing_at r.actor.at) (world.writings r.behind)) r.actor.private)
+      stored_by (is_safe l p free M a name number op call begun b h).knows
 
   pub may_write : (t : Storing) → m.at ≡ t → AllByRecursion (MayWriteBack (λ x. false) M.state) (store_owed t m)
-  may_write t is = subst (λ x. AllByRecursion (MayWriteBack (λ y. false) M.state) (store_owed x m)) is (subst (λ x. AllByRecursion (MayWriteBack (λ y. false) M.state) (owed x)) stored_by (is_safe l p free M a name number op call begun b h).pairs)
+  may_write t is = subst (λ x. AllByRecursion (MayWriteBack (λ y. false) M.state) (store_owed x m)) is
+      (subst (λ x. AllByRecursion (MayWriteBack (λ y. false) M.state) (owed x)) stored_by (is_safe l p free M a name number op call begun b h).pairs)
 
   -- the first word that is still to be loaded is persistent
-  pub drafted : (how : Rattle.flit_pv.specs.declared.stores.Stored.Stored) → m.at ≡ Store_reads how → (v : ℕ) (vs : List ℕ) → m.drafts.values ≡ v ∷ vs → IsPersistent M.state m.drafts.word (version_of (word_at M.state m.drafts.word))
+  pub drafted : (how : Rattle.flit_pv.specs.declared.stores.Stored.Stored) → m.at ≡ Store_reads how → (v : ℕ) (vs : List ℕ) → m.drafts.values ≡ v ∷ vs →
+      IsPersistent M.state m.drafts.word (version_of (word_at M.state m.drafts.word))
   drafted how is v vs e =
-      let k : MayBeDrafted M.state r.actor.private m.drafts × IsAmong r.actor.private m.drafts.word = subst (λ x. StoreKnows M.state r.actor.private x m) is store_knows in
-      (subst (λ xs. AllByRecursion (λ w. IsAmong r.actor.private w × IsPersistent M.state w (version_of (word_at M.state w))) (run.words_from m.drafts.word xs)) e k.0.words).0.1
+      let k : MayBeDrafted M.state r.actor.private m.drafts × IsAmong r.actor.private m.drafts.word =
+      subst (λ x. StoreKnows M.state r.actor.private x m) is store_knows in
+      (subst (λ xs. AllByRecursion (λ w. IsAmong r.actor.private w × IsPersistent M.state w (version_of (word_at M.state w))) (run.words_from m.drafts.word xs))
+      e k.0.words).0.1
 
   -- the word that is to be stored is one of the state
   pub writes_within : (next : Noted) → m.at ≡ Writes next → next.word < length M.state.words
   writes_within next is =
       let k : StoreKnows M.state r.actor.private (Writes next) m = subst (λ x. StoreKnows M.state r.actor.private x m) is store_knows in
-      (all_among (IsPlain (λ x. false) M.state) r.actor.private next.word (is_safe l p free M a name number op call begun b h).plain k.each.0.mine).0
+      (all_among (IsPWord (λ x. false) M.state) r.actor.private next.word (is_safe l p free M a name number op call begun b h).plain k.each.0.mine).0
 
   -- after the event the store is `x`, in this world
-  pub record Stored (s : State) (g : Actor) (x : PrivateStore) : Type 0 where
+  pub record Stored (s : State) (g : Actor) (x : HeldStore) : Type 0 where
     pub frame : Frame l p free M a name number op call begun b h s
     pub sound : IsSoundWith l p free M a name number op call begun b h s g
     pub machine : g.at ≡ run.Stores x
     pub private : g.private ≡ r.actor.private
     pub stays : Stays x m
 
-  pub on_store : (k : ℕ) (s : State) (g : Actor) (x : PrivateStore) → Stored s g x → KeepsPrivate l (C x) g.private → KnowsAt (scene l p free M a name number op call begun b h s) g.needs name number call begun op.reply (C x) →
+  pub on_store : (k : ℕ) (s : State) (g : Actor) (x : HeldStore) → Stored s g x → KeepsPrivate l (C x) g.private →
+      KnowsAt (scene l p free M a name number op call begun b h s) g.needs name number call begun op.reply (C x) →
       Gone l p free M a name number op call begun b h k s (record op { at = C x })
   on_store k s g x after keeps knows = goes_on l p free M a name number op call begun b h k s after.frame g after.sound (record op { at = C x }) (record {
     call_same = refl;
@@ -99,8 +107,10 @@ module _ (l : Layout) (p : Place) (free : List ℕ) (M : Moment SampleOp) (a : L
     tags = λ bare t. absurd (kind.tags bare m (subst (TagsAt bare) at t));
   })
 
-  pub end_store : (k : ℕ) (s : State) (g : Actor) (x : PrivateStore) → Stored s g x → (how : Rattle.flit_pv.specs.declared.stores.Stored.Stored) → x.at ≡ Store_ended how → (next : SampleOp) →
-      (Stands (scene l p free M a name number op call begun b h s) M.progress a u (idle name number x.hand) b r.before (record g { at = run.Idles x.hand }) r.behind → Rests (scene l p free M a name number op call begun b h s) name number call begun x.hand (record g { at = run.Idles x.hand }) →
+  pub end_store : (k : ℕ) (s : State) (g : Actor) (x : HeldStore) → Stored s g x → (how : Rattle.flit_pv.specs.declared.stores.Stored.Stored) →
+      x.at ≡ Store_ended how → (next : HeldOp) →
+      (Stands (scene l p free M a name number op call begun b h s) M.progress a u (idle name number x.hand) b r.before (record g { at = run.Idles x.hand })
+      r.behind → Rests (scene l p free M a name number op call begun b h s) name number call begun x.hand (record g { at = run.Idles x.hand }) →
       Arrives (scene l p free M a name number op call begun b h s) (idle name number x.hand) r.before r.behind (busy name number next call begun)) →
       Gone l p free M a name number op call begun b h k s next
   end_store k s g x after how ended next arrives =
@@ -125,13 +135,15 @@ module _ (l : Layout) (p : Place) (free : List ℕ) (M : Moment SampleOp) (a : L
       Stored (after M.state e) (gone_on p M.state e [] r.actor) (store_takes t m (answer M.state e))
   by_event t is e asked frame = record {
     frame = frame;
-    sound = turned l p free M a name number op call begun b h r.actor e (sound_now l p free M a name number op call begun b h) (ap (run.asks p) stored_by ∙ ap (λ x. store_asks x m) is ∙ asked);
+    sound = turned l p free M a name number op call begun b h r.actor e (sound_now l p free M a name number op call begun b h) (ap (run.asks p) stored_by
+        ∙ ap (λ x. store_asks x m) is ∙ asked);
     machine = ap (λ x. run.takes p x (answer M.state e)) stored_by ∙ ap (λ x. run.Stores (store_takes x m (answer M.state e))) is;
     private = refl;
     stays = store_stays t m (answer M.state e);
   }
 
   -- by an event that changes no place
-  pub quietly : (t : Storing) → m.at ≡ t → (e : Event) → store_asks t m ≡ Some e → after M.state e ≡ M.state → Stored M.state (gone_on p M.state e [] r.actor) (store_takes t m (answer M.state e))
+  pub quietly : (t : Storing) → m.at ≡ t → (e : Event) → store_asks t m ≡ Some e → after M.state e ≡ M.state →
+      Stored M.state (gone_on p M.state e [] r.actor) (store_takes t m (answer M.state e))
   quietly t is e asked quiet = subst (λ s. Stored s (gone_on p M.state e [] r.actor) (store_takes t m (answer M.state e))) quiet
       (by_event t is e asked (subst (Frame l p free M a name number op call begun b h) (sym quiet) (still l p free M a name number op call begun b h)))

@@ -16,7 +16,7 @@ use Rattle.flit_pv.specs.declared.evicts.Evicting.{Evicting}
 use Rattle.flit_pv.specs.declared.evicts.Evicting.TheVariants.{Reads, WritesBack, Done}
 use Rattle.flit_pv.specs.Evicts.{evict_asks, evict_asked, evict_takes, evict_taken}
 use Rattle.flit_runs.specs.Workings as run
-use Rattle.flit_runs.specs.Worlds.{Worker as Actor, HasHad, world_of, gone_on, event}
+use Rattle.flit_runs.specs.Worlds.{Actor, HasHad, world_of, gone_on, event}
 use Rattle.flit_runs.specs.Soundness.{IsSound, EvictKnows, Knows}
 use Rattle.flit_runs.proofs.ExchangeSteps.{around}
 use Rattle.flit_runs.specs.Worlds as world
@@ -24,37 +24,48 @@ use Rattle.flit_runs.proofs.Turns.{sound-turn, safe}
 use Rattle.flit_structure.specs.declared.workers.Worker.{Worker}
 use Rattle.flit_structure.specs.Moments.{Moment, with_workers, sweeper}
 use Rattle.flit_structure.proofs.WriteBacks.{old_state, old_progress}
-use Rattle.flit_one_key.specs.declared.operations.SampleOp.{SampleOp}
-use Rattle.flit_one_key.specs.Knowledge.{Agrees}
+use Rattle.flit_one_key.specs.Operations.{HeldOp}
+use Rattle.flit_one_key.specs.Knowledge.{OneKeyHolds}
 use Rattle.flit_one_key.proofs.Replacing.{mine, is_sound, replaced}
 use Rattle.flit_one_key.proofs.WritingBack.{written_back}
 
-pub persisted : (l : Layout) (p : Place) (free : List ℕ) (M : Moment SampleOp) (word kept : ℕ) → word < words_of l → HasHad (λ w. false) M.state word kept → Agrees l p free M →
-    Agrees l p free (record M { state = after M.state (Persist word kept); progress = progress_after M.progress M.state (Persist word kept) None })
+pub persisted : (l : Layout) (p : Place) (free : List ℕ) (M : Moment HeldOp) (word kept : ℕ) → word < words_of l → HasHad (λ w. false) M.state word kept →
+    OneKeyHolds l p free M →
+    OneKeyHolds l p free (record M { state = after M.state (Persist word kept); progress = progress_after M.progress M.state (Persist word kept) None })
 persisted l p free M word kept below had h = ⊎_elim
-    (λ le. subst (λ s. Agrees l p free (record M { state = s; progress = progress_after M.progress M.state (Persist word kept) None })) (sym (old_state M.state word kept le))
-    (subst (λ q. Agrees l p free (record M { progress = q })) (sym (old_progress M.progress M.state word kept None le)) h))
-    (λ is. subst (λ k. Agrees l p free (record M { state = after M.state (Persist word k); progress = progress_after M.progress M.state (Persist word k) None })) (sym is) (written_back l p free M h word below))
+    (λ le. subst (λ s. OneKeyHolds l p free (record M { state = s; progress = progress_after M.progress M.state (Persist word kept) None }))
+    (sym (old_state M.state word kept le))
+    (subst (λ q. OneKeyHolds l p free (record M { progress = q })) (sym (old_progress M.progress M.state word kept None le)) h))
+    (λ is. subst (λ k. OneKeyHolds l p free (record M {
+      state = after M.state (Persist word k);
+      progress =
+          progress_after M.progress M.state (Persist word k) None;
+    })) (sym is) (written_back l p free M h word below))
     (had.stood refl)
 
 -- then the shadow has it
 pub shadow_has : (m : State) (word kept : ℕ) → word < length m.shadows → kept ≤ shadow_at (after m (Persist word kept)) word
-shadow_has m word kept lt = ⊎_elim (λ k. subst (λ n. kept ≤ n) (sym k.1) (most (shadow_at m word) kept)) (λ k. absurd (k.0 refl)) (index-set m.shadows word (max (shadow_at m word) kept) word lt)
+shadow_has m word kept lt = ⊎_elim (λ k. subst (λ n. kept ≤ n) (sym k.1) (most (shadow_at m word) kept)) (λ k. absurd (k.0 refl))
+    (index-set m.shadows word (max (shadow_at m word) kept) word lt)
   where
     most : (a b : ℕ) → b ≤ max a b
     most a b = omega arith
 
-same_hand : (at : Evicting) (m : Evict) (told : ℕ) → ((evict_takes at m told).hand.queue ≡ m.hand.queue) × ((evict_takes at m told).hand.name ≡ m.hand.name) × ((evict_takes at m told).hand.number ≡ m.hand.number) × ((evict_takes at m told).hand.spare ≡ m.hand.spare) × ((evict_takes at m told).hand.ticket ≡ m.hand.ticket) × ((evict_takes at m told).word ≡ m.word)
+same_hand : (at : Evicting) (m : Evict) (told : ℕ) → ((evict_takes at m told).hand.queue ≡ m.hand.queue) × ((evict_takes at m told).hand.name ≡ m.hand.name)
+    × ((evict_takes at m told).hand.number ≡ m.hand.number) × ((evict_takes at m told).hand.spare ≡ m.hand.spare)
+    × ((evict_takes at m told).hand.ticket ≡ m.hand.ticket) × ((evict_takes at m told).word ≡ m.word)
 same_hand Reads m told = (refl, refl, refl, refl, refl, refl)
 same_hand (WritesBack raw) m told = (refl, refl, refl, refl, refl, refl)
 same_hand Done m told = (refl, refl, refl, refl, refl, refl)
 
-module _ (l : Layout) (p : Place) (free : List ℕ) (M : Moment SampleOp) (a : List (Worker SampleOp)) (name number : ℕ) (m : Evict) (b : List (Worker SampleOp)) where
+module _ (l : Layout) (p : Place) (free : List ℕ) (M : Moment HeldOp) (a : List (Worker HeldOp)) (name number : ℕ) (m : Evict) (b : List (Worker HeldOp)) where
   -- an event that changes nothing more leaves its machine further on
-  goes_on : (e : Event) → evict_asked m ≡ Some e → after M.state e ≡ M.state → (told : ℕ) → told ≡ answer M.state e → Agrees l p free (with_workers M (a ++ sweeper name number m ∷ b)) → Agrees l p free (with_workers M (a ++ sweeper name number (evict_taken m told) ∷ b))
+  goes_on : (e : Event) → evict_asked m ≡ Some e → after M.state e ≡ M.state → (told : ℕ) → told ≡ answer M.state e →
+      OneKeyHolds l p free (with_workers M (a ++ sweeper name number m ∷ b)) →
+      OneKeyHolds l p free (with_workers M (a ++ sweeper name number (evict_taken m told) ∷ b))
   goes_on e asked still told is h =
-      let u : Worker SampleOp = sweeper name number m in
-      let w : Worker SampleOp = sweeper name number (evict_taken m told) in
+      let u : Worker HeldOp = sweeper name number m in
+      let w : Worker HeldOp = sweeper name number (evict_taken m told) in
       let r = mine l p free M a u w b h in
       let k = same_hand m.at m told in
       let g : Actor = gone_on p M.state e [] r.actor in
@@ -80,29 +91,60 @@ module _ (l : Layout) (p : Place) (free : List ℕ) (M : Moment SampleOp) (a : L
       same n = omega arith
 
   -- what its write-back keeps the word has had
-  has_had : (h : Agrees l p free (with_workers M (a ++ sweeper name number m ∷ b))) (raw : ℕ) → m.at ≡ WritesBack raw → HasHad (λ x. false) M.state m.word (bare_of raw)
+  has_had : (h : OneKeyHolds l p free (with_workers M (a ++ sweeper name number m ∷ b))) (raw : ℕ) → m.at ≡ WritesBack raw →
+      HasHad (λ x. false) M.state m.word (bare_of raw)
   has_had h raw at =
-      let u : Worker SampleOp = sweeper name number m in
+      let u : Worker HeldOp = sweeper name number m in
       let r = mine l p free M a u u b h in
       let ws = around (world.writings r.before) (run.writing_at r.actor.at) (world.writings r.behind) in
-      let k : Knows p (λ x. false) M.state ws r.actor.private (run.Evicts m) = subst (Knows p (λ x. false) M.state ws r.actor.private) r.mine.at (safe p (λ x. false) M.state r.before r.actor r.behind (is_sound l p free M a u u b h)).knows in
+      let k : Knows p (λ x. false) M.state ws r.actor.private (run.Evicts m) =
+      subst (Knows p (λ x. false) M.state ws r.actor.private) r.mine.at (safe p (λ x. false) M.state r.before r.actor r.behind
+      (is_sound l p free M a u u b h)).knows in
       let x : EvictKnows (λ x. false) M.state (WritesBack raw) m.word = subst (λ y. EvictKnows (λ x. false) M.state y m.word) at k in
       x.1
 
-  pub sweeps : (at : Evicting) → m.at ≡ at → (e : Event) → evict_asks at m ≡ Some e → Agrees l p free (with_workers M (a ++ sweeper name number m ∷ b)) →
-      Agrees l p free (record M { state = after M.state e; progress = progress_after M.progress M.state e None; workers = a ++ sweeper name number (evict_taken m (answer M.state e)) ∷ b })
+  pub sweeps : (at : Evicting) → m.at ≡ at → (e : Event) → evict_asks at m ≡ Some e → OneKeyHolds l p free (with_workers M (a ++ sweeper name number m ∷ b)) →
+      OneKeyHolds l p free (record M {
+        state = after M.state e;
+        progress = progress_after M.progress M.state e None;
+        workers =
+            a ++ sweeper name number (evict_taken m (answer M.state e)) ∷ b;
+      })
   sweeps Reads at e q h =
-      subst (λ d. Agrees l p free (record M { state = after M.state d; progress = progress_after M.progress M.state d None; workers = a ++ sweeper name number (evict_taken m (answer M.state d)) ∷ b })) (same_Some (Load m.word) e q)
+      subst (λ d. OneKeyHolds l p free (record M {
+        state = after M.state d;
+        progress = progress_after M.progress M.state d None;
+        workers =
+            a ++ sweeper name number (evict_taken m (answer M.state d)) ∷ b;
+      })) (same_Some (Load m.word) e q)
       (goes_on (Load m.word) (ap (λ x. evict_asks x m) at) refl (word_at M.state m.word) refl h)
   sweeps (WritesBack raw) at e q h =
-      subst (λ d. Agrees l p free (record M { state = after M.state d; progress = progress_after M.progress M.state d None; workers = a ++ sweeper name number (evict_taken m (answer M.state d)) ∷ b })) (same_Some (Persist m.word (bare_of raw)) e q)
+      subst (λ d. OneKeyHolds l p free (record M {
+        state = after M.state d;
+        progress = progress_after M.progress M.state d None;
+        workers =
+            a ++ sweeper name number (evict_taken m (answer M.state d)) ∷ b;
+      })) (same_Some (Persist m.word (bare_of raw)) e q)
       (then_goes (mine l p free M a (sweeper name number m) (sweeper name number m) b h).mine.is_at.2)
     where
-      then_goes : m.word < words_of l → Agrees l p free (record M { state = after M.state (Persist m.word (bare_of raw)); progress = progress_after M.progress M.state (Persist m.word (bare_of raw)) None; workers = a ++ sweeper name number (evict_taken m (shadow_at M.state m.word)) ∷ b })
+      then_goes : m.word < words_of l → OneKeyHolds l p free (record M {
+        state = after M.state (Persist m.word (bare_of raw));
+        progress =
+            progress_after M.progress M.state (Persist m.word (bare_of raw)) None;
+        workers =
+            a ++ sweeper name number (evict_taken m (shadow_at M.state m.word)) ∷ b;
+      })
       then_goes below =
           let k = persisted l p free (with_workers M (a ++ sweeper name number m ∷ b)) m.word (bare_of raw) below (has_had h raw at) h in
-          let N : Moment SampleOp = record M { state = after M.state (Persist m.word (bare_of raw)); progress = progress_after M.progress M.state (Persist m.word (bare_of raw)) None } in
-          let old : bare_of raw ≤ shadow_at N.state m.word = shadow_has M.state m.word (bare_of raw) (subst (λ n. m.word < n) (sym (h.sound.suits.whole ∙ h.whole.0)) below) in
-          let done = Rattle.flit_one_key.proofs.Sweeping.goes_on l p free N a name number m b (Persist m.word (bare_of raw)) (ap (λ x. evict_asks x m) at) (old_state N.state m.word (bare_of raw) old) (shadow_at N.state m.word) refl k in
-          subst (λ d. Agrees l p free (with_workers N (a ++ sweeper name number d ∷ b))) (ap (λ x. evict_takes x m (shadow_at N.state m.word)) at ∙ sym (ap (λ x. evict_takes x m (shadow_at M.state m.word)) at)) done
+          let N : Moment HeldOp = record M {
+            state = after M.state (Persist m.word (bare_of raw));
+            progress =
+                progress_after M.progress M.state (Persist m.word (bare_of raw)) None;
+          } in
+          let old : bare_of raw ≤ shadow_at N.state m.word = shadow_has M.state m.word (bare_of raw)
+          (subst (λ n. m.word < n) (sym (h.sound.suits.whole ∙ h.whole.0)) below) in
+          let done = Rattle.flit_one_key.proofs.Sweeping.goes_on l p free N a name number m b (Persist m.word (bare_of raw)) (ap (λ x. evict_asks x m) at)
+          (old_state N.state m.word (bare_of raw) old) (shadow_at N.state m.word) refl k in
+          subst (λ d. OneKeyHolds l p free (with_workers N (a ++ sweeper name number d ∷ b)))
+          (ap (λ x. evict_takes x m (shadow_at N.state m.word)) at ∙ sym (ap (λ x. evict_takes x m (shadow_at M.state m.word)) at)) done
   sweeps Done at e q h = absurd (none-some e q)

@@ -15,7 +15,6 @@ use Rattle.flit_model.specs.Histories.{is_update_by, is_yes, is_update}
 use Rattle.flit_model.specs.Lists.{IsRisingFrom}
 use Rattle.flit_model.specs.Settling.{Progress}
 use Rattle.flit_model.specs.CrashImages.{IsAheadAt}
-use Rattle.flit_model.specs.declared.calls.Call.{Call}
 use Rattle.flit_model.specs.declared.calls.Call.TheVariants.{Insert, Remove}
 use Rattle.flit_model.specs.declared.calls.Reply.TheVariants.{Yes}
 use Rattle.flit_model.specs.declared.calls.Entry.{Entry}
@@ -24,15 +23,15 @@ use Rattle.flit_place.specs.Covers.{Covers}
 use Rattle.flit_structure.specs.declared.workers.Doing.{Doing}
 use Rattle.flit_structure.specs.declared.workers.Doing.TheVariants.{Idle, Busy, Evicting}
 use Rattle.flit_structure.specs.declared.workers.Worker.{Worker}
-use Rattle.flit_structure.specs.Moments.{Moment, made, numbers_of, with_workers, busy}
-use Rattle.flit_structure.specs.Meanings.{writings, hand_of}
-use Rattle.flit_structure.specs.Lawful.{IsSized, IsNearShadow, HoldsWith, IsOfHand, IsUnderWay}
+use Rattle.flit_structure.specs.Moments.{Moment, made, numbers_of}
+use Rattle.flit_structure.specs.Meanings.{writings}
+use Rattle.flit_structure.specs.Lawful.{IsSized, IsNearShadow, IsOfHand, IsUnderWay, IsNamed, AreNamed, AreMade}
 use Rattle.flit_runs.specs.Soundness.{IsKept}
-use Rattle.flit_one_key.specs.declared.operations.SampleOp.{SampleOp}
+use Rattle.flit_one_key.specs.Operations.{HeldOp}
 use Rattle.flit_one_key.specs.Steps.{IsSmall}
-use Rattle.flit_one_key.specs.Knowledge.{Agrees, scene_of, Story, untouched, filled, emptied, both, MayWait, HasNumber, IsOwner, Owns, IsAny}
+use Rattle.flit_one_key.specs.Knowledge.{OneKeyHolds, scene_of, Story, untouched, filled, emptied, both, MayWait, HasNumber, IsOwner, Owns, IsAny}
 use Rattle.flit_one_key.specs.OneKey.{one_key}
-use Rattle.flit_one_key.proofs.Actors.{Split, split_acts, same_writings, doing_hand, any_at}
+use Rattle.flit_one_key.proofs.Actors.{from_acts, same_writings, doing_hand, any_at}
 
 near : (word shadow : ℕ) → IsKept false word shadow → IsNearShadow word shadow
 near word shadow k = record {
@@ -42,7 +41,8 @@ near word shadow k = record {
 
 -- there is a head
 pub some_words : (l : Layout) → IsSmall l → 0 < words_of l
-some_words l small = positive l.buckets (parts_of l.kind * last_row_of l) (if l.values then last_row_of l else 0) (subst (λ k. least_buckets k ≤ l.buckets) small.list small.accepted.least_bucket)
+some_words l small = positive l.buckets (parts_of l.kind * last_row_of l) (if l.values then last_row_of l else 0)
+    (subst (λ k. least_buckets k ≤ l.buckets) small.list small.accepted.least_bucket)
   where
     positive : (b c d : ℕ) → 1 ≤ b → 0 < b + c + d
     positive b c d e = omega (arith, e)
@@ -72,7 +72,8 @@ one_case : (name low : ℕ) (e : Entry) (t : Bool) → low ≤ e.number → IsRi
 one_case name low e true le = (le, tt)
 one_case name low e false le = tt
 
-two_case : (name : ℕ) (e d : Entry) (t t' : Bool) → (t ≡ true → t' ≡ true → e.number < d.number) → IsRisingFrom 0 (map (λ d. d.number) (cond t (e ∷ cond t' (d ∷ []) []) (cond t' (d ∷ []) [])))
+two_case : (name : ℕ) (e d : Entry) (t t' : Bool) → (t ≡ true → t' ≡ true → e.number < d.number) →
+    IsRisingFrom 0 (map (λ d. d.number) (cond t (e ∷ cond t' (d ∷ []) []) (cond t' (d ∷ []) [])))
 two_case name e d true true l = (least e.number, (l refl refl, tt))
 two_case name e d true false l = (least e.number, tt)
 two_case name e d false true l = (least d.number, tt)
@@ -82,7 +83,8 @@ pub story_rises : (name k v : ℕ) (b n : Bool) (es : List Entry) → Story k v 
 story_rises name k v b n es (untouched c) = tt
 story_rises name k v b n es (filled e c r) = one_case name 0 e (eqb e.worker name) (least e.number)
 story_rises name k v b n es (emptied d c r) = one_case name 0 d (eqb d.worker name) (least d.number)
-story_rises name k v b n es (both e d c r c' r' l) = two_case name e d (eqb e.worker name) (eqb d.worker name) (λ t t'. l (eqb-true e.worker name t ∙ sym (eqb-true d.worker name t')))
+story_rises name k v b n es (both e d c r c' r' l) = two_case name e d (eqb e.worker name) (eqb d.worker name)
+    (λ t t'. l (eqb-true e.worker name t ∙ sym (eqb-true d.worker name t')))
 
 -- ---- what waits
 
@@ -106,7 +108,8 @@ pub made_one : (p : Progress) (e : Entry) → p.waiting ≡ fin.insert fin.empty
 made_one p e is = ap (λ m. p.settled ++ fin.values m) is ∙ ap (λ xs. p.settled ++ xs) (one_value e)
 
 pub get_single : {X : Type 0} (k : ℕ) (v : X) (q : ℕ) → fin.get (fin.insert {K = ℕ} {X = X} {R = nat_cmp} fin.empty k v) q ≡ cond (eqb q k) (Some v) None
-get_single {X} k v q = get-insert nat_cmp_total fin.empty k v q ∙ ap (λ b. cond b (Some v) (fin.get {K = ℕ} {X = X} {R = nat_cmp} fin.empty q)) (unsigned_tied q k) ∙ ap (λ o. cond (eqb q k) (Some v) o) (get-empty nat_cmp q)
+get_single {X} k v q = get-insert nat_cmp_total fin.empty k v q ∙ ap (λ b. cond b (Some v) (fin.get {K = ℕ} {X = X} {R = nat_cmp} fin.empty q))
+    (unsigned_tied q k) ∙ ap (λ o. cond (eqb q k) (Some v) o) (get-empty nat_cmp q)
 
 pub get_here : (e : Entry) → fin.get (fin.insert {K = ℕ} {X = Entry} {R = nat_cmp} fin.empty 0 e) 0 ≡ Some e
 get_here e = get_single 0 e 0
@@ -119,14 +122,16 @@ at_zero word x e false q is = absurd (none-some e is)
 pub waits_at : (p : Progress) (word : ℕ) (e : Entry) → MayWait p → fin.get p.waiting word ≡ Some e → (word ≡ 0) × (p.waiting ≡ fin.insert fin.empty 0 e)
 waits_at p word e may is = ⊎_elim
     (λ none. absurd (none-some e (sym (ap (λ m. fin.get m word) none ∙ get-empty nat_cmp word) ∙ is)))
-    (λ one. let r = at_zero word one.0 e (eqb word 0) refl (sym (ap (λ m. fin.get m word) one.1 ∙ get_single 0 one.0 word) ∙ is) in (r.0, one.1 ∙ ap (λ x. fin.insert fin.empty 0 x) r.1)) may
+    (λ one. let r = at_zero word one.0 e (eqb word 0) refl (sym (ap (λ m. fin.get m word) one.1 ∙ get_single 0 one.0 word) ∙ is) in
+    (r.0, one.1 ∙ ap (λ x. fin.insert fin.empty 0 x) r.1)) may
 
-owner_under_way : (us a b : List (Worker SampleOp)) (e : Entry) (name number : ℕ) (d : Doing SampleOp) → us ≡ a ++ (record { name = name; number = number; doing = d }) ∷ b → Owns e name number d → IsUnderWay us e
+owner_under_way : (us a b : List (Worker HeldOp)) (e : Entry) (name number : ℕ) (d : Doing HeldOp) →
+    us ≡ a ++ (record { name = name; number = number; doing = d }) ∷ b → Owns e name number d → IsUnderWay us e
 owner_under_way us a b e name number (Idle hand) is q = absurd q
 owner_under_way us a b e name number (Busy op call begun) is q = (name, number, op, call, begun, (a, b, is), q)
 owner_under_way us a b e name number (Evicting m) is q = absurd q
 
-of_hands : (us : List (Worker SampleOp)) (es : List Entry) → AllByRecursion (λ e. IsAny (HasNumber e) us) es → AllByRecursion (IsOfHand us) es
+of_hands : (us : List (Worker HeldOp)) (es : List Entry) → AllByRecursion (λ e. IsAny (HasNumber e) us) es → AllByRecursion (IsOfHand us) es
 of_hands us [] h = tt
 of_hands us (e ∷ es) h = (let r = any_at (HasNumber e) us h.0 in (r.1, (r.0, r.2, r.3), r.4.0, r.4.1), of_hands us es h.1)
 
@@ -134,52 +139,60 @@ pub length_one : (xs : List Entry) (e : Entry) → length (xs ++ e ∷ []) ≡ l
 length_one [] e = refl
 length_one (x ∷ xs) e = let h = length_one xs e in omega (arith, h)
 
-module _ {S : Type 0} (layout_of : S → Layout) (place_of : S → Place) (free_of : S → List ℕ) (s : S) (M : Moment SampleOp) (h : Agrees (layout_of s) (place_of s) (free_of s) M) where
-  pub is_sized : IsSized (layout_of s) M.state
+module _ (l : Layout) (p : Place) (free : List ℕ) (M : Moment HeldOp) (h : OneKeyHolds l p free M) where
+  pub is_sized : IsSized l M.state
   is_sized = record { accepted = h.small.accepted; words = h.whole.0; shadows = h.sound.suits.whole ∙ h.whole.0; slots = h.whole.1 }
 
   pub is_near : (word : ℕ) → IsNearShadow (word_at M.state word) (shadow_at M.state word)
   is_near word = near (word_at M.state word) (shadow_at M.state word) (h.sound.words word)
 
-  pub covers : Covers (place_of s) M.state (writings (one_key layout_of place_of free_of) s M.workers)
-  covers = subst (Covers (place_of s) M.state) (same_writings layout_of place_of free_of s (scene_of (layout_of s) (place_of s) (free_of s) M h.linked h.version) M.workers h.actors h.acts) h.sound.covers
+  pub covers : Covers p M.state (writings (one_key l p free) M.workers)
+  covers = subst (Covers p M.state) (same_writings l p free (scene_of l p free M h.linked h.version) M.workers h.actors h.acts) h.sound.covers
 
-  pub updates : AllByRecursion (λ e. is_update e ≡ true) (made M.progress)
-  updates = story_updates _ _ h.linked h.tells.now (made M.progress) h.tells.story
+  pub entries : AreMade M.workers M.progress
+  entries = record {
+    updates = story_updates _ _ h.linked h.tells.now (made M.progress) h.tells.story;
+    rises = λ name. story_rises name _ _ h.linked h.tells.now (made M.progress) h.tells.story;
+    numbered = of_hands M.workers (made M.progress) h.named;
+  }
 
-  pub rises : (name : ℕ) → IsRisingFrom 0 (numbers_of name (made M.progress))
-  rises name = story_rises name _ _ h.linked h.tells.now (made M.progress) h.tells.story
+  pub named : AreNamed (one_key l p free) M.workers
+  named = record {
+    different = h.different;
+    each = from_acts (scene_of l p free M h.linked h.version) (IsNamed (one_key l p free))
+        (λ u g k. record {
+          least = k.least;
+          most = k.most;
+          name = ap (λ x. x.name) (doing_hand l p free u.doing) ∙ k.name;
+          number =
+              ap (λ x. x.number) (doing_hand l p free u.doing) ∙ k.number;
+        })
+        M.workers h.actors h.acts;
+  }
 
-  pub numbered : AllByRecursion (IsOfHand M.workers) (made M.progress)
-  numbered = of_hands M.workers (made M.progress) h.named
-
-  is_ahead_now : (e : Entry) → M.progress.waiting ≡ fin.insert fin.empty 0 e → is_ahead (word_at M.state 0) (shadow_at M.state 0) ≡ true
-  is_ahead_now e is = eq-eqb (version_of (word_at M.state 0)) (version_of (shadow_at M.state 0) + 1) (later (length (made M.progress)) (length M.progress.settled) (ap length (made_one M.progress e is) ∙ length_one M.progress.settled e) h.tells.head.0 h.tells.shadow.0)
+  -- a head at which an update waits is ahead of its shadow by one version
+  pub one_ahead : (e : Entry) → M.progress.waiting ≡ fin.insert fin.empty 0 e → version_of (word_at M.state 0) ≡ version_of (shadow_at M.state 0) + 1
+  one_ahead e is = later (length (made M.progress)) (length M.progress.settled) (ap length (made_one M.progress e is) ∙ length_one M.progress.settled e)
+      h.tells.head.0 h.tells.shadow.0
     where
-      later : (a b : ℕ) → a ≡ b + 1 → version_of (word_at M.state 0) ≡ h.version + a → version_of (shadow_at M.state 0) ≡ h.version + b → version_of (word_at M.state 0) ≡ version_of (shadow_at M.state 0) + 1
+      later : (a b : ℕ) → a ≡ b + 1 → version_of (word_at M.state 0) ≡ h.version + a → version_of (shadow_at M.state 0) ≡ h.version + b →
+          version_of (word_at M.state 0) ≡ version_of (shadow_at M.state 0) + 1
       later a b e i j = omega (arith, e, i, j)
 
-  has_head : 0 < words_of (layout_of s)
-  has_head = some_words (layout_of s) h.small
+  is_ahead_now : (e : Entry) → M.progress.waiting ≡ fin.insert fin.empty 0 e → is_ahead (word_at M.state 0) (shadow_at M.state 0) ≡ true
+  is_ahead_now e is = eq-eqb (version_of (word_at M.state 0)) (version_of (shadow_at M.state 0) + 1) (one_ahead e is)
+
+  has_head : 0 < words_of l
+  has_head = some_words l h.small
 
   pub waits : (word : ℕ) (e : Entry) → fin.get M.progress.waiting word ≡ Some e → IsAheadAt M.state word × IsUnderWay M.workers e
   waits word e is =
       let r = waits_at M.progress word e h.tells.waits is in
       let o = any_at (IsOwner e) M.workers (h.owned e r.1) in (
-        subst (IsAheadAt M.state) (sym r.0) (record { within = subst (λ n. 0 < n) (sym (h.sound.suits.whole ∙ h.whole.0)) has_head; ahead = is_ahead_now e r.1 }),
+        subst (IsAheadAt M.state) (sym r.0) (record {
+          within = subst (λ n. 0 < n) (sym (h.sound.suits.whole ∙ h.whole.0)) has_head;
+          ahead =
+              is_ahead_now e r.1;
+        }),
         owner_under_way M.workers o.0 o.2 e o.1.name o.1.number o.1.doing o.3 o.4,
       )
-
-module _ {S : Type 0} (layout_of : S → Layout) (place_of : S → Place) (free_of : S → List ℕ) (s : S) (M : Moment SampleOp) (a : List (Worker SampleOp)) (u : Worker SampleOp) (b : List (Worker SampleOp)) (h : HoldsWith (one_key layout_of place_of free_of) s M a u b) where
-  mine : Split (scene_of (layout_of s) (place_of s) (free_of s) (with_workers M (a ++ u ∷ b)) h.linked h.version) a u b h.actors
-  mine = split_acts (scene_of (layout_of s) (place_of s) (free_of s) (with_workers M (a ++ u ∷ b)) h.linked h.version) a u b h.actors h.acts
-
-  pub is_named : (1 ≤ u.name) × (u.name ≤ (layout_of s).workers)
-  is_named = (mine.mine.least, mine.mine.most)
-
-  pub has_hand : ((hand_of (one_key layout_of place_of free_of) s u).name ≡ u.name) × ((hand_of (one_key layout_of place_of free_of) s u).number ≡ u.number)
-  has_hand = (ap (λ x. x.name) (doing_hand layout_of place_of free_of s u.doing) ∙ mine.mine.name, ap (λ x. x.number) (doing_hand layout_of place_of free_of s u.doing) ∙ mine.mine.number)
-
-module _ {S : Type 0} (layout_of : S → Layout) (place_of : S → Place) (free_of : S → List ℕ) (s : S) (M : Moment SampleOp) (a : List (Worker SampleOp)) (name number : ℕ) (op : SampleOp) (call : Call) (b : List (Worker SampleOp)) where
-  pub begun_before : (n : ℕ) → HoldsWith (one_key layout_of place_of free_of) s M a (busy name number op call (Some n)) b → n ≤ length M.progress.settled
-  begun_before n h = (mine layout_of place_of free_of s M a (busy name number op call (Some n)) b h).mine.is_at.3

@@ -28,8 +28,8 @@ use Rattle.flit_runs.proofs.Turns.{sound-turn}
 use Rattle.flit_structure.specs.Moments.{Moment, made}
 use Rattle.flit_structure.proofs.WriteBacks.{old_state, old_progress, shadows_rise}
 use Rattle.flit_structure.proofs.Growing.{get_gone, get_put}
-use Rattle.flit_one_key.specs.declared.operations.SampleOp.{SampleOp}
-use Rattle.flit_one_key.specs.Knowledge.{Agrees, Scene, scene_of, MayWait, Story, HasNumber, IsAny, link_to, linked_after, row_key, row_value, inserts, all_rows}
+use Rattle.flit_one_key.specs.Operations.{HeldOp}
+use Rattle.flit_one_key.specs.Knowledge.{OneKeyHolds, Scene, scene_of, MayWait, Story, HasNumber, IsAny, link_to, linked_after, row_key, row_value, inserts, all_rows}
 use Rattle.flit_one_key.proofs.Uses.{made_none, made_one, length_one, waits_at, get_here}
 use Rattle.flit_one_key.proofs.Crashing.{story_now, value_bare}
 use Rattle.flit_one_key.proofs.Later.{Lasts, Stays, all_act, through}
@@ -38,13 +38,17 @@ shadow_elsewhere : (m : State) (word kept : ℕ) → word < length m.shadows →
 shadow_elsewhere m word kept lt other = ⊎_elim (λ k. absurd (other k.0)) (λ k. k.1) (index-set m.shadows word (max (shadow_at m word) kept) 0 lt)
 
 shadow_here : (m : State) (kept : ℕ) → 0 < length m.shadows → shadow_at m 0 < kept → shadow_at (after m (Persist 0 kept)) 0 ≡ kept
-shadow_here m kept lt less = ⊎_elim (λ k. k.1 ∙ greater (shadow_at m 0) kept less) (λ k. absurd (k.0 refl)) (index-set m.shadows 0 (max (shadow_at m 0) kept) 0 lt)
+shadow_here m kept lt less = ⊎_elim (λ k. k.1 ∙ greater (shadow_at m 0) kept less) (λ k. absurd (k.0 refl))
+    (index-set m.shadows 0 (max (shadow_at m 0) kept) 0 lt)
   where
     greater : (a b : ℕ) → a < b → max a b ≡ b
     greater a b h = omega (arith, h)
 
 removed_none : (e : Entry) → fin.remove (fin.insert {K = ℕ} {X = Entry} {R = nat_cmp} fin.empty 0 e) 0 ≡ fin.empty
-removed_none e = same_map nat_cmp_total nat_cmp-IsAntisymmetric _ _ (λ q. get_gone (fin.insert fin.empty 0 e) 0 q ∙ ap (λ o. cond (Rattle.std.specs.Prelude.nat_eq q 0) None o) (get_put fin.empty 0 e q ∙ ap (λ o. cond (Rattle.std.specs.Prelude.nat_eq q 0) (Some e) o) (get-empty nat_cmp q)) ∙ either (Rattle.std.specs.Prelude.nat_eq q 0) e ∙ sym (get-empty nat_cmp q))
+removed_none e = same_map nat_cmp_total nat_cmp-IsAntisymmetric _ _ (λ q. get_gone (fin.insert fin.empty 0 e) 0 q
+    ∙ ap (λ o. cond (Rattle.std.specs.Prelude.nat_eq q 0) None o) (get_put fin.empty 0 e q
+    ∙ ap (λ o. cond (Rattle.std.specs.Prelude.nat_eq q 0) (Some e) o) (get-empty nat_cmp q)) ∙ either (Rattle.std.specs.Prelude.nat_eq q 0) e
+    ∙ sym (get-empty nat_cmp q))
   where
     either : (b : Bool) (e : Entry) → ◌≡◌ {A = Option Entry} (cond b None (cond b (Some e) None)) None
     either true e = refl
@@ -54,25 +58,26 @@ less_true : (a b : ℕ) → a < b → nat_lt a b ≡ true
 less_true a b h = grind (arith, nat_tests)
 
 -- the same moment with its state after a write-back, and these updates settled and waiting
-module _ (l : Layout) (p : Place) (free : List ℕ) (M : Moment SampleOp) (h : Agrees l p free M) (word : ℕ) (below : word < words_of l) where
+module _ (l : Layout) (p : Place) (free : List ℕ) (M : Moment HeldOp) (h : OneKeyHolds l p free M) (word : ℕ) (below : word < words_of l) where
   abbrev kept : ℕ
   kept = bare_of (word_at M.state word)
 
   abbrev t : State
   t = after M.state (Persist word kept)
 
-  abbrev written : Progress → Moment SampleOp
+  abbrev written : Progress → Moment HeldOp
   written q = record M { state = t; progress = q }
 
   same_le : (n : ℕ) → n ≤ n
   same_le n = omega arith
 
   persists : (w v : ℕ) → IsPersistent M.state w v → IsPersistent t w v
-  persists w v le = through v (version_of (shadow_at M.state w)) (version_of (shadow_at t w)) le (version-le (shadow_at M.state w) (shadow_at t w) (shadows_rise M.state (Persist word kept) w))
+  persists w v le = through v (version_of (shadow_at M.state w)) (version_of (shadow_at t w)) le
+      (version-le (shadow_at M.state w) (shadow_at t w) (shadows_rise M.state (Persist word kept) w))
 
   with_progress : (q : Progress) → length M.progress.settled ≤ length q.settled → made q ≡ made M.progress → MayWait q →
       (version_of (shadow_at t 0) ≡ h.version + length q.settled) × (value_of (shadow_at t 0) ≡ link_to (linked_after h.linked (length q.settled))) →
-      ((e : Entry) → q.waiting ≡ fin.insert fin.empty 0 e → M.progress.waiting ≡ fin.insert fin.empty 0 e) → Agrees l p free (written q)
+      ((e : Entry) → q.waiting ≡ fin.insert fin.empty 0 e → M.progress.waiting ≡ fin.insert fin.empty 0 e) → OneKeyHolds l p free (written q)
   with_progress q more same waits shadow still =
       let f : Scene = scene_of l p free M h.linked h.version in
       record {
@@ -101,8 +106,15 @@ module _ (l : Layout) (p : Place) (free : List ℕ) (M : Moment SampleOp) (h : A
           past = h.rows.past;
         };
         acts =
-            let lasts : Lasts f t q.settled (made q) [] = record { further = more; grown = same ∙ sym (append-nil f.made); persists = persists; drawn = same_le M.state.counter } in
-            all_act f t q.settled (made q) [] lasts M.workers h.actors (all_any (Stays f t q.settled (made q) [] lasts) (λ u. (tt, inl (record { key = refl; link = refl; value = refl }))) M.workers) h.acts;
+            let lasts : Lasts f t q.settled (made q) [] = record {
+              further = more;
+              grown = same ∙ sym (append-nil f.made);
+              persists = persists;
+              drawn =
+                  same_le M.state.counter;
+            } in
+            all_act f t q.settled (made q) [] lasts M.workers h.actors (all_any (Stays f t q.settled (made q) [] lasts)
+            (λ u. (tt, inl (record { key = refl; link = refl; value = refl }))) M.workers) h.acts;
         different = h.different;
         named = subst (AllByRecursion (λ e. IsAny (HasNumber e) M.workers)) (sym same) h.named;
         owned = λ e is. h.owned e (still e is);
@@ -113,17 +125,20 @@ module _ (l : Layout) (p : Place) (free : List ℕ) (M : Moment SampleOp) (h : A
   shadows_are = h.sound.suits.whole ∙ h.whole.0
 
   -- where the shadow rises at another word, nothing waits there
-  elsewhere : 0 ≢ word → Agrees l p free (written (settles M.progress word (fin.get M.progress.waiting word)))
+  elsewhere : 0 ≢ word → OneKeyHolds l p free (written (settles M.progress word (fin.get M.progress.waiting word)))
   elsewhere other = by_get (fin.get M.progress.waiting word) refl
     where
-      by_get : (o : Option Entry) → fin.get M.progress.waiting word ≡ o → Agrees l p free (written (settles M.progress word o))
-      by_get None is = with_progress M.progress (same_le (length M.progress.settled)) refl h.tells.waits
-          (ap version_of (shadow_elsewhere M.state word kept (subst (λ n. word < n) (sym shadows_are) below) other) ∙ h.tells.shadow.0, ap value_of (shadow_elsewhere M.state word kept (subst (λ n. word < n) (sym shadows_are) below) other) ∙ h.tells.shadow.1)
+      by_get : (o : Option Entry) → fin.get M.progress.waiting word ≡ o → OneKeyHolds l p free (written (settles M.progress word o))
+      by_get None is = with_progress M.progress (same_le (length M.progress.settled)) refl h.tells.waits (
+        ap version_of (shadow_elsewhere M.state word kept (subst (λ n. word < n) (sym shadows_are) below) other)
+            ∙ h.tells.shadow.0,
+        ap value_of (shadow_elsewhere M.state word kept (subst (λ n. word < n) (sym shadows_are) below) other) ∙ h.tells.shadow.1,
+      )
           (λ e q. q)
       by_get (Some e) is = absurd (other (sym (waits_at M.progress word e h.tells.waits is).0))
 
   -- where it rises at the head, the update that waits there is settled
-  at_head : 0 ≡ word → shadow_at M.state word < kept → Agrees l p free (written (settles M.progress word (fin.get M.progress.waiting word)))
+  at_head : 0 ≡ word → shadow_at M.state word < kept → OneKeyHolds l p free (written (settles M.progress word (fin.get M.progress.waiting word)))
   at_head here less = ⊎_elim (λ empty. absurd (not_behind empty)) (λ one. settled_one one.0 one.1) h.tells.waits
     where
       behind : (a b v m s : ℕ) → b ≡ a + 1 → b ≡ v + m → a ≡ v + s → m ≡ s → ⊥
@@ -137,36 +152,49 @@ module _ (l : Layout) (p : Place) (free : List ℕ) (M : Moment SampleOp) (h : A
 
       not_behind : M.progress.waiting ≡ fin.empty → ⊥
       not_behind empty = ⊎_elim (λ same. irreflexive (shadow_at M.state 0) (bare_of (word_at M.state 0)) less_here same)
-          (λ next. behind (version_of (shadow_at M.state 0)) (version_of (word_at M.state 0)) h.version (length (made M.progress)) (length M.progress.settled) next h.tells.head.0 h.tells.shadow.0 (ap length (made_none M.progress empty)))
+          (λ next. behind (version_of (shadow_at M.state 0)) (version_of (word_at M.state 0)) h.version (length (made M.progress)) (length M.progress.settled)
+          next h.tells.head.0 h.tells.shadow.0 (ap length (made_none M.progress empty)))
           ((h.sound.words 0).close refl)
 
-      settled_one : (e : Entry) → M.progress.waiting ≡ fin.insert fin.empty 0 e → Agrees l p free (written (settles M.progress word (fin.get M.progress.waiting word)))
+      settled_one : (e : Entry) → M.progress.waiting ≡ fin.insert fin.empty 0 e →
+          OneKeyHolds l p free (written (settles M.progress word (fin.get M.progress.waiting word)))
       settled_one e is =
-          let found : fin.get M.progress.waiting word ≡ Some e = subst (λ w. fin.get M.progress.waiting w ≡ Some e) here (ap (λ m. fin.get m 0) is ∙ get_here e) in
-          let gone : fin.remove M.progress.waiting word ≡ fin.empty = subst (λ w. fin.remove M.progress.waiting w ≡ fin.empty) here (ap (λ m. fin.remove m 0) is ∙ removed_none e) in
+          let found : fin.get M.progress.waiting word ≡ Some e = subst (λ w. fin.get M.progress.waiting w ≡ Some e) here (ap (λ m. fin.get m 0) is ∙ get_here e)
+          in
+          let gone : fin.remove M.progress.waiting word ≡ fin.empty = subst (λ w. fin.remove M.progress.waiting w ≡ fin.empty) here (ap (λ m. fin.remove m 0) is
+          ∙ removed_none e) in
           let all : made M.progress ≡ M.progress.settled ++ e ∷ [] = made_one M.progress e is in
           let q : Progress = settles M.progress word (Some e) in
           let same : made q ≡ made M.progress = made_none q gone ∙ sym all in
-          let shadow : shadow_at t 0 ≡ bare_of (word_at M.state 0) = subst (λ w. shadow_at (after M.state (Persist w (bare_of (word_at M.state w)))) 0 ≡ bare_of (word_at M.state 0)) here
+          let shadow : shadow_at t 0 ≡ bare_of (word_at M.state 0) = subst (λ w. shadow_at (after M.state (Persist w (bare_of (word_at M.state w)))) 0 ≡ bare_of
+          (word_at M.state 0)) here
           (shadow_here M.state (bare_of (word_at M.state 0)) (subst (λ n. 0 < n) (sym shadows_are) (subst (λ w. w < words_of l) (sym here) below)) less_here) in
-          subst (λ o. Agrees l p free (written (settles M.progress word o))) (sym found)
+          subst (λ o. OneKeyHolds l p free (written (settles M.progress word o))) (sym found)
           (with_progress q (longer (length M.progress.settled) (length (M.progress.settled ++ e ∷ [])) (length_one M.progress.settled e)) same (inl gone) (
             ap version_of shadow ∙ version-bare (word_at M.state 0) ∙ h.tells.head.0 ∙ ap (λ es. h.version + length es) all,
-            ap value_of shadow ∙ value_bare (word_at M.state 0) ∙ h.tells.head.1 ∙ ap link_to (story_now _ _ h.linked h.tells.now (made M.progress) h.tells.story) ∙ ap (λ es. link_to (linked_after h.linked (length es))) all,
+            ap value_of shadow ∙ value_bare (word_at M.state 0) ∙ h.tells.head.1
+                ∙ ap link_to (story_now _ _ h.linked h.tells.now (made M.progress) h.tells.story) ∙ ap (λ es. link_to (linked_after h.linked (length es))) all,
           )
           (λ d k. absurd (none-some d (sym (get-empty nat_cmp 0) ∙ ap (λ m. fin.get m 0) (sym gone ∙ k) ∙ get_here d))))
         where
           longer : (a b : ℕ) → b ≡ a + 1 → a ≤ b
           longer a b e = omega (arith, e)
 
-  pub written_back : Agrees l p free (record M { state = after M.state (write_back M.state word); progress = progress_after M.progress M.state (write_back M.state word) None })
+  pub written_back : OneKeyHolds l p free (record M {
+    state = after M.state (write_back M.state word);
+    progress =
+        progress_after M.progress M.state (write_back M.state word) None;
+  })
   written_back = ⊎_elim
-      (λ less. subst (λ b. Agrees l p free (written (cond b (settles M.progress word (fin.get M.progress.waiting word)) M.progress))) (sym (less_true (shadow_at M.state word) kept less))
+      (λ less. subst (λ b. OneKeyHolds l p free (written (cond b (settles M.progress word (fin.get M.progress.waiting word)) M.progress)))
+      (sym (less_true (shadow_at M.state word) kept less))
       (by_word (cases_lt 0 word) less))
-      (λ le. subst (λ s. Agrees l p free (record M { state = s; progress = progress_after M.progress M.state (Persist word kept) None })) (sym (old_state M.state word kept le))
-      (subst (λ q. Agrees l p free (record M { progress = q })) (sym (old_progress M.progress M.state word kept None le)) h))
+      (λ le. subst (λ s. OneKeyHolds l p free (record M { state = s; progress = progress_after M.progress M.state (Persist word kept) None }))
+      (sym (old_state M.state word kept le))
+      (subst (λ q. OneKeyHolds l p free (record M { progress = q })) (sym (old_progress M.progress M.state word kept None le)) h))
       (cases_lt (shadow_at M.state word) kept)
     where
-      by_word : (0 < word) ⊎ (word ≤ 0) → shadow_at M.state word < kept → Agrees l p free (written (settles M.progress word (fin.get M.progress.waiting word)))
+      by_word : (0 < word) ⊎ (word ≤ 0) → shadow_at M.state word < kept → OneKeyHolds l p free
+          (written (settles M.progress word (fin.get M.progress.waiting word)))
       by_word (inl lt) less = elsewhere (λ e. absurd (omega (arith, lt, e)))
       by_word (inr le) less = at_head (omega (arith, le)) less

@@ -17,39 +17,41 @@ use Rattle.flit_model.specs.declared.calls.Entry.{Entry}
 use Rattle.flit_place.specs.Tags.{Place}
 use Rattle.flit_pv.specs.declared.queues.Noted.{Noted}
 use Rattle.flit_pv.specs.declared.hands.Hand.{Hand}
+use Rattle.flit_pv.specs.Tallies.{IsTally}
 use Rattle.flit_pv.specs.declared.loads.Loading.{Loading}
 use Rattle.flit_pv.specs.declared.loads.Loading.TheVariants.{Reads as Load_reads, Asks, MakesRoom as Load_makes_room, Has}
 use Rattle.flit_pv.specs.declared.v_loads.VLoading.TheVariants.{Reads as V_reads}
-use Rattle.flit_pv.specs.declared.exchanges.PExchange.{PExchange}
+use Rattle.flit_pv.specs.Exchanges.{HeldExchange}
 use Rattle.flit_pv.specs.declared.exchanges.Exchanging.{Exchanging}
 use Rattle.flit_pv.specs.declared.exchanges.Exchanging.TheVariants.{Ready, Tries, TriesBare, WritesBack, Withdraws, Lowers, Ended}
-use Rattle.flit_pv.specs.declared.stores.PrivateStore.{PrivateStore}
+use Rattle.flit_pv.specs.Stores.{HeldStore}
 use Rattle.flit_pv.specs.declared.stores.Storing.{Storing}
 use Rattle.flit_pv.specs.declared.stores.Storing.TheVariants.{Reads as Store_reads, MakesRoom as Store_makes_room, Writes, Ended as Store_ended}
 use Rattle.flit_pv.specs.declared.stores.Stored.{Stored}
 use Rattle.flit_pv.specs.declared.stores.Stored.TheVariants.{Stored as All_stored, Worn as Store_worn}
 use Rattle.flit_rows.specs.declared.take_row.Taking.TheVariants.{Draws}
 use Rattle.flit_rows.specs.Taking.{is_past}
-use Rattle.flit_runs.specs.Workings.{Working, Idles, Loads, Reads, Stores, Exchanges, Completes, Evicts, Dependency}
+use Rattle.flit_runs.specs.Workings.{Working, Idles, Loads, VLoads, Stores, Exchanges, Completes, Evicts, Dependency}
 use Rattle.flit_runs.specs.Worlds.{IsAway}
-use Rattle.flit_runs.specs.Worlds.{Worker as Actor}
+use Rattle.flit_runs.specs.Worlds.{Actor}
 use Rattle.flit_runs.specs.Soundness.{IsSound, Needs}
 use Rattle.flit_structure.specs.declared.workers.Doing.{Doing}
 use Rattle.flit_structure.specs.declared.workers.Doing.TheVariants.{Idle, Busy, Evicting}
 use Rattle.flit_structure.specs.declared.workers.Worker.{Worker}
 use Rattle.flit_structure.specs.Moments.{Moment, made, update_of, HaveDifferentNames}
 use Rattle.flit_structure.specs.Meanings.{first_at, key_of, value_put, IsServed}
-use Rattle.flit_one_key.specs.declared.operations.At.{At}
-use Rattle.flit_one_key.specs.declared.operations.At.TheVariants.{Head, Key, Value, Row, Words, RowValue, Link, Ends, Rests}
-use Rattle.flit_one_key.specs.declared.operations.SampleOp.{SampleOp}
+use Rattle.flit_structure.specs.Lawful.{is_insert, fits}
+use Rattle.flit_one_key.specs.Operations.{At}
+use Rattle.flit_one_key.specs.Operations.{Head, Key, Value, Row, Words, RowValue, Link, Ends, Rests}
+use Rattle.flit_one_key.specs.Operations.{HeldOp}
 use Rattle.flit_one_key.specs.Steps.{IsSmall, key_word, value_word, to_row, links_none, hand_at}
 
 -- ---- the machine of a worker
 
 abbrev pub working_at : At → Working
 working_at (Head m) = Loads m
-working_at (Key head m) = Reads m
-working_at (Value m) = Reads m
+working_at (Key head m) = VLoads m
+working_at (Value m) = VLoads m
 working_at (Row head m) = Idles m.hand
 working_at (Words head m) = Stores m
 working_at (RowValue head m) = Stores m
@@ -57,12 +59,12 @@ working_at (Link m) = Exchanges m
 working_at (Ends m) = Completes m
 working_at (Rests hand) = Idles hand
 
-abbrev pub working_of : Doing SampleOp → Working
+abbrev pub working_of : Doing HeldOp → Working
 working_of (Idle hand) = Idles hand
 working_of (Busy op call begun) = working_at op.at
 working_of (Evicting m) = Evicts m
 
-abbrev pub hand_in : Doing SampleOp → Hand
+abbrev pub hand_in : Doing HeldOp → Hand
 hand_in (Idle hand) = hand
 hand_in (Busy op call begun) = hand_at op.at
 hand_in (Evicting m) = m.hand
@@ -122,7 +124,8 @@ pub record Tells (f : Scene) (p : Progress) : Type 0 where
   pub story : Story (row_key f.layout f.state) (row_value f.layout f.state) f.linked now f.made
   pub content : f.content ≡ map_if f.linked (row_key f.layout f.state) (row_value f.layout f.state)
   pub head : (version_of (word_at f.state 0) ≡ f.version + length f.made) × (value_of (word_at f.state 0) ≡ link_to now)
-  pub shadow : (version_of (shadow_at f.state 0) ≡ f.version + length f.settled) × (value_of (shadow_at f.state 0) ≡ link_to (linked_after f.linked (length f.settled)))
+  pub shadow : (version_of (shadow_at f.state 0) ≡ f.version + length f.settled)
+      × (value_of (shadow_at f.state 0) ≡ link_to (linked_after f.linked (length f.settled)))
   pub waits : MayWait p
   -- once the head has linked the row, the row's key is one of a map and its link leads nowhere
   pub sealed : linked_after f.linked 0 ≡ true ⊎ (1 ≤ length f.made) → (row_key f.layout f.state ≤ 4294967292) × (row_link f.layout f.state ≡ 0)
@@ -157,12 +160,12 @@ rows_at call (Link m) = link_holds call m.at (first_spare m.hand.spare)
 rows_at call (Ends m) = first_spare m.fence.hand.spare
 rows_at call (Rests hand) = first_spare hand.spare
 
-abbrev pub rows_of : Doing SampleOp → ℕ
+abbrev pub rows_of : Doing HeldOp → ℕ
 rows_of (Idle hand) = first_spare hand.spare
 rows_of (Busy op call begun) = rows_at op.call op.at
 rows_of (Evicting m) = first_spare m.hand.spare
 
-abbrev pub all_rows : List (Worker SampleOp) → ℕ
+abbrev pub all_rows : List (Worker HeldOp) → ℕ
 all_rows [] = 0
 all_rows (u ∷ us) = rows_of u.doing + all_rows us
 
@@ -170,16 +173,16 @@ all_rows (u ∷ us) = rows_of u.doing + all_rows us
 abbrev pub one_past : List ℕ → ℕ → ℕ
 one_past free ticket = if is_past free ticket then 1 else 0
 
-abbrev pub all_past : List ℕ → List (Worker SampleOp) → ℕ
+abbrev pub all_past : List ℕ → List (Worker HeldOp) → ℕ
 all_past free [] = 0
 all_past free (u ∷ us) = one_past free (hand_in u.doing).ticket + all_past free us
 
 abbrev pub inserts : List Entry → ℕ
 inserts [] = 0
-inserts (e ∷ es) = (if Rattle.flit_structure.specs.Lawful.is_insert e.call then 1 else 0) + inserts es
+inserts (e ∷ es) = (if is_insert e.call then 1 else 0) + inserts es
 
 -- the free row, where there is one, is drawn or not, and once drawn it is spare or was linked
-pub record Rows (f : Scene) (us : List (Worker SampleOp)) : Type 0 where
+pub record Rows (f : Scene) (us : List (Worker HeldOp)) : Type 0 where
   pub one : (f.free ≡ []) ⊎ (f.free ≡ 1 ∷ [])
   pub given : all_rows us + inserts f.made ≡ min f.state.counter (length f.free)
   pub within : f.state.counter ≤ length f.free + all_past f.free us
@@ -192,8 +195,8 @@ pub record Rows (f : Scene) (us : List (Worker SampleOp)) : Type 0 where
 
 module _ (f : Scene) (needs : List Dependency) (name number : ℕ) (call : Call) (begun : Option ℕ) where
   -- it has no update yet
-  abbrev pub IsFresh : Type 0
-  IsFresh = AllByRecursion (λ e. e.worker ≡ name → e.number < number) f.made
+  abbrev pub IsUnmade : Type 0
+  IsUnmade = AllByRecursion (λ e. e.worker ≡ name → e.number < number) f.made
 
   -- it has loaded the head, as so many updates left it, not before its first event, and depends on that
   pub record Saw (head : ℕ) : Type 0 where
@@ -235,14 +238,15 @@ module _ (f : Scene) (needs : List Dependency) (name number : ℕ) (call : Call)
   IsLimited (Worn word version) hand = (f.layout.limit ≤ version) × (IsPersistent f.state word version ⊎ Needs needs word version)
 
   pub record Ending (reply : Reply) (hand : Hand) : Type 0 where
+    pub fits : fits call reply ≡ true
     pub update : is_update_by call reply ≡ true → HasMade
-    pub none : is_update_by call reply ≡ false → IsFresh
+    pub none : is_update_by call reply ≡ false → IsUnmade
     pub read : is_read_by call reply ≡ true → HasRead reply
     pub limited : IsLimited reply hand
 
   -- an insert of this key and value with the free row, over a head that links none
   pub record Inserting (head : ℕ) (hand : Hand) : Type 0 where
-    pub fresh : IsFresh
+    pub fresh : IsUnmade
     pub saw : Saw head
     pub none : links_none head ≡ true
     pub insert : call ≡ Insert (key_of call) (value_put call)
@@ -263,10 +267,11 @@ module _ (f : Scene) (needs : List Dependency) (name number : ℕ) (call : Call)
   IsWorn (Store_worn word version) ready = (f.layout.limit ≤ version) × IsPersistent f.state word version
 
   -- the row's key and its link are loaded, and then stored
-  abbrev pub StoresWords : Storing → PrivateStore → Type 0
+  abbrev pub StoresWords : Storing → HeldStore → Type 0
   StoresWords (Store_reads how) m =
       ((how ≡ All_stored) × (m.drafts.word ≡ key_word f.layout) × (m.drafts.values ≡ key_of call ∷ 0 ∷ []) × (m.drafts.ready ≡ []))
-      ⊎ ((m.drafts.word ≡ key_word f.layout + 1) × (m.drafts.values ≡ 0 ∷ []) × IsWorn how ((n : Noted) × (m.drafts.ready ≡ n ∷ []) × IsPair n (key_word f.layout) (key_of call)) × (length m.drafts.ready ≤ 1))
+      ⊎ ((m.drafts.word ≡ key_word f.layout + 1) × (m.drafts.values ≡ 0 ∷ [])
+      × IsWorn how ((n : Noted) × (m.drafts.ready ≡ n ∷ []) × IsPair n (key_word f.layout) (key_of call)) × (length m.drafts.ready ≤ 1))
   StoresWords (Writes next) m =
       (IsPair next (key_word f.layout) (key_of call) × ((n : Noted) × (m.drafts.ready ≡ n ∷ []) × IsPair n (key_word f.layout + 1) 0))
       ⊎ (IsPair next (key_word f.layout + 1) 0 × (m.drafts.ready ≡ []) × (row_key f.layout f.state ≡ key_of call))
@@ -276,28 +281,28 @@ module _ (f : Scene) (needs : List Dependency) (name number : ℕ) (call : Call)
   StoresWords (Store_ended how) m = ⊥
 
   -- the row's value is loaded, and then stored
-  abbrev pub StoresValue : Storing → PrivateStore → Type 0
+  abbrev pub StoresValue : Storing → HeldStore → Type 0
   StoresValue (Store_reads how) m = (how ≡ All_stored) × (m.drafts.word ≡ value_word f.layout) × (m.drafts.values ≡ value_put call ∷ []) × (m.drafts.ready ≡ [])
   StoresValue (Writes next) m = IsPair next (value_word f.layout) (value_put call) × (m.drafts.ready ≡ [])
   StoresValue (Store_makes_room next first) m = IsPair next (value_word f.layout) (value_put call) × (m.drafts.ready ≡ [])
   StoresValue (Store_ended how) m = ⊥
 
   -- the head is to be exchanged: for an insert to the link to its row, for a remove to the link to none
-  pub record Linking (m : PExchange) : Type 0 where
-    pub fresh : IsFresh
+  pub record Linking (m : HeldExchange) : Type 0 where
+    pub fresh : IsUnmade
     pub saw : Saw m.from
     pub next : (version_of m.to ≡ version_of m.from + 1) × (is_tagged m.to ≡ false)
     pub way : (Inserting m.from m.hand × HasWords × (row_value f.layout f.state ≡ value_put call) × (value_of m.to ≡ to_row))
         ⊎ ((call ≡ Remove (key_of call)) × Found_key m.from × (value_of m.to ≡ 0))
 
   -- it was exchanged
-  abbrev pub LinkKnows : Exchanging → PExchange → Type 0
+  abbrev pub LinkKnows : Exchanging → HeldExchange → Type 0
   LinkKnows Ready m = Linking m
   LinkKnows (Tries slot) m = Linking m
   LinkKnows TriesBare m = Linking m × (is_tagged m.from ≡ true)
   LinkKnows WritesBack m = HasMade
   LinkKnows Withdraws m = HasMade
-  LinkKnows (Lowers slot found) m = IsFresh
+  LinkKnows (Lowers slot found) m = IsUnmade
   LinkKnows (Ended how) m = ⊥
 
   abbrev pub LoadKnows : Loading → Type 0
@@ -308,10 +313,12 @@ module _ (f : Scene) (needs : List Dependency) (name number : ℕ) (call : Call)
 
   -- what a call knows, by where it is
   abbrev pub KnowsAt : Reply → At → Type 0
-  KnowsAt reply (Head m) = IsFresh × (m.word ≡ 0) × LoadKnows m.at × (m.hand.queue ≡ [])
-  KnowsAt reply (Key head m) = IsFresh × (m.at ≡ V_reads) × (m.word ≡ key_word f.layout) × Saw head × (links_none head ≡ false)
-  KnowsAt reply (Value m) = IsFresh × (m.at ≡ V_reads) × (m.word ≡ value_word f.layout) × (f.layout.values ≡ true) × (call ≡ Get (key_of call)) × ((head : ℕ) × Found_key head)
-  KnowsAt reply (Row head m) = IsFresh × (m.at ≡ Draws) × (m.need ≡ 1) × (is_past f.free m.hand.ticket ≡ false) × (m.hand.spare ≡ 0 ∷ 0 ∷ []) × Saw head × (call ≡ Insert (key_of call) (value_put call))
+  KnowsAt reply (Head m) = IsUnmade × (m.word ≡ 0) × LoadKnows m.at × (m.hand.queue ≡ [])
+  KnowsAt reply (Key head m) = IsUnmade × (m.at ≡ V_reads) × (m.word ≡ key_word f.layout) × Saw head × (links_none head ≡ false)
+  KnowsAt reply (Value m) = IsUnmade × (m.at ≡ V_reads) × (m.word ≡ value_word f.layout) × (f.layout.values ≡ true) × (call ≡ Get (key_of call))
+      × ((head : ℕ) × Found_key head)
+  KnowsAt reply (Row head m) = IsUnmade × (m.at ≡ Draws) × (m.need ≡ 1) × (is_past f.free m.hand.ticket ≡ false) × (m.hand.spare ≡ 0 ∷ 0 ∷ []) × Saw head
+      × (call ≡ Insert (key_of call) (value_put call))
   KnowsAt reply (Words head m) = Inserting head m.hand × StoresWords m.at m × (m.drafts.limit ≡ f.layout.limit)
   KnowsAt reply (RowValue head m) = Inserting head m.hand × HasWords × StoresValue m.at m × (m.drafts.limit ≡ f.layout.limit) × (f.layout.values ≡ true)
   KnowsAt reply (Link m) = (m.word ≡ 0) × LinkKnows m.at m
@@ -355,15 +362,16 @@ IsFirst (Rests hand) = ⊥
 -- ---- all workers
 
 -- what a worker is at
-abbrev pub IsAt : Scene → Actor → ℕ → ℕ → Doing SampleOp → Type 0
+abbrev pub IsAt : Scene → Actor → ℕ → ℕ → Doing HeldOp → Type 0
 IsAt f g name number (Idle hand) = (g.private ≡ []) × (hand.queue ≡ [])
 IsAt f g name number (Busy op call begun) =
-    (op.call ≡ call) × IsServed f.layout call × KeepsPrivate f.layout op.at g.private × (first_at 0 begun ≤ length f.settled) × KnowsAt f g.needs name number call begun op.reply op.at
+    (op.call ≡ call) × IsServed f.layout call × KeepsPrivate f.layout op.at g.private × (first_at 0 begun ≤ length f.settled)
+    × KnowsAt f g.needs name number call begun op.reply op.at
     × (begun ≡ None → IsFirst op.at)
 IsAt f g name number (Evicting m) = (g.private ≡ []) × (m.hand.queue ≡ []) × (m.word < words_of f.layout)
 
 -- a worker with its machine, the versions it depends on and its private words
-pub record Acts (f : Scene) (u : Worker SampleOp) (g : Actor) : Type 0 where
+pub record Acts (f : Scene) (u : Worker HeldOp) (g : Actor) : Type 0 where
   pub at : g.at ≡ working_of u.doing
   pub name : (hand_in u.doing).name ≡ u.name
   pub number : (hand_in u.doing).number ≡ u.number
@@ -373,31 +381,31 @@ pub record Acts (f : Scene) (u : Worker SampleOp) (g : Actor) : Type 0 where
   pub low : AllByRecursion (λ e. e.worker ≡ u.name → e.number ≤ u.number) f.made
   pub is_at : IsAt f g u.name u.number u.doing
 
-abbrev pub AllAct : Scene → List (Worker SampleOp) → List Actor → Type 0
+abbrev pub AllAct : Scene → List (Worker HeldOp) → List Actor → Type 0
 AllAct f [] [] = Unit {0}
 AllAct f [] (g ∷ gs) = ⊥
 AllAct f (u ∷ us) [] = ⊥
 AllAct f (u ∷ us) (g ∷ gs) = Acts f u g × AllAct f us gs
 
-abbrev pub IsAny : (Worker SampleOp → Type 0) → List (Worker SampleOp) → Type 0
+abbrev pub IsAny : (Worker HeldOp → Type 0) → List (Worker HeldOp) → Type 0
 IsAny P [] = ⊥
 IsAny P (u ∷ us) = P u ⊎ IsAny P us
 
 -- a worker has the name of an entry, and no lower number
-abbrev pub HasNumber : Entry → Worker SampleOp → Type 0
+abbrev pub HasNumber : Entry → Worker HeldOp → Type 0
 HasNumber e u = (u.name ≡ e.worker) × (e.number ≤ u.number)
 
 -- an entry is of the call that a worker is at
-abbrev pub Owns : Entry → ℕ → ℕ → Doing SampleOp → Type 0
+abbrev pub Owns : Entry → ℕ → ℕ → Doing HeldOp → Type 0
 Owns e name number (Idle hand) = ⊥
 Owns e name number (Busy op call begun) = e ≡ update_of name number call
 Owns e name number (Evicting m) = ⊥
 
-abbrev pub IsOwner : Entry → Worker SampleOp → Type 0
+abbrev pub IsOwner : Entry → Worker HeldOp → Type 0
 IsOwner e u = Owns e u.name u.number u.doing
 
 -- a worker's exchange has written this bare head and not yet cleared its tag
-abbrev pub LinkTags : ℕ → Exchanging → PExchange → Type 0
+abbrev pub LinkTags : ℕ → Exchanging → HeldExchange → Type 0
 LinkTags bare Ready m = ⊥
 LinkTags bare (Tries slot) m = ⊥
 LinkTags bare TriesBare m = ⊥
@@ -417,13 +425,13 @@ TagsAt bare (Link m) = LinkTags bare m.at m
 TagsAt bare (Ends m) = ⊥
 TagsAt bare (Rests hand) = ⊥
 
-abbrev pub Tags : ℕ → Doing SampleOp → Type 0
+abbrev pub Tags : ℕ → Doing HeldOp → Type 0
 Tags bare (Idle hand) = ⊥
 Tags bare (Busy op call begun) = TagsAt bare op.at
 Tags bare (Evicting m) = ⊥
 
 -- the moment of a scene
-abbrev pub scene_of : Layout → Place → List ℕ → Moment SampleOp → Bool → ℕ → Scene
+abbrev pub scene_of : Layout → Place → List ℕ → Moment HeldOp → Bool → ℕ → Scene
 scene_of l p free M linked version = record {
   layout = l;
   place = p;
@@ -436,8 +444,12 @@ scene_of l p free M linked version = record {
   version = version;
 }
 
+-- no count of a worker's hand is past its top
+abbrev pub AreCounting : List (Worker HeldOp) → Type 0
+AreCounting us = AllByRecursion (λ u. IsTally (hand_in u.doing).tally) us
+
 -- all of a moment agrees
-pub record Agrees (l : Layout) (p : Place) (free : List ℕ) (M : Moment SampleOp) : Type 0 where
+pub record OneKeyHolds (l : Layout) (p : Place) (free : List ℕ) (M : Moment HeldOp) : Type 0 where
   pub linked : Bool
   pub version : ℕ
   pub actors : List Actor

@@ -1,6 +1,6 @@
 -- The calls of a map of at most one key: the event that each asks next, and what an answer makes of it. The row is
 -- row 1, and the head is word 0.
-use Rattle.std.specs.Prelude.{◌≡◌, ℕ, ◌+◌, ◌==◌, ◌&&◌, Bool, true, false, List, [], ◌∷◌, Option, Some, None, is_none, slice_set, if◌then◌else◌}
+use Rattle.std.specs.Prelude.{◌≡◌, ℕ, ◌+◌, ◌==◌, ◌&&◌, Bool, true, false, List, [], ◌∷◌, Option, None, is_none, slice_set, if◌then◌else◌}
 use Rattle.flit_words.specs.declared.layouts.Layout.{Layout}
 use Rattle.flit_words.specs.declared.layouts.Kind.TheVariants.{List as List_kind}
 use Rattle.flit_words.specs.Layouts.{Accepted, row_word_of, value_word_of}
@@ -14,18 +14,18 @@ use Rattle.flit_model.specs.declared.calls.Reply.TheVariants.{Yes, No, Found, Fu
 use Rattle.flit_place.specs.Tags.{Place}
 use Rattle.flit_place.specs.declared.writings.Writing.{Writing}
 use Rattle.flit_pv.specs.declared.hands.Hand.{Hand}
-use Rattle.flit_pv.specs.declared.loads.PLoad.{PLoad}
+use Rattle.flit_pv.specs.Loads.{HeldLoad}
 use Rattle.flit_pv.specs.declared.loads.Loading.{Loading}
 use Rattle.flit_pv.specs.declared.loads.Loading.TheVariants.{Reads as Load_reads, Asks, MakesRoom as Load_makes_room, Has}
-use Rattle.flit_pv.specs.declared.v_loads.VLoad.{VLoad}
+use Rattle.flit_pv.specs.VLoads.{HeldVLoad}
 use Rattle.flit_pv.specs.declared.v_loads.VLoading.{VLoading}
 use Rattle.flit_pv.specs.declared.v_loads.VLoading.TheVariants.{Reads as V_reads, Has as V_has}
-use Rattle.flit_pv.specs.declared.exchanges.PExchange.{PExchange}
+use Rattle.flit_pv.specs.Exchanges.{HeldExchange}
 use Rattle.flit_pv.specs.declared.exchanges.Exchanging.{Exchanging}
 use Rattle.flit_pv.specs.declared.exchanges.Exchanging.TheVariants.{Ready, Tries, TriesBare, WritesBack, Withdraws, Lowers, Ended}
 use Rattle.flit_pv.specs.declared.exchanges.Exchanged.{Exchanged}
 use Rattle.flit_pv.specs.declared.exchanges.Exchanged.TheVariants.{Won, Lost, Worn as Exchange_worn}
-use Rattle.flit_pv.specs.declared.stores.PrivateStore.{PrivateStore}
+use Rattle.flit_pv.specs.Stores.{HeldStore}
 use Rattle.flit_pv.specs.declared.stores.Storing.{Storing}
 use Rattle.flit_pv.specs.declared.stores.Storing.TheVariants.{Reads as Store_reads, MakesRoom as Store_makes_room, Writes, Ended as Store_ended}
 use Rattle.flit_pv.specs.declared.stores.Stored.{Stored}
@@ -37,16 +37,16 @@ use Rattle.flit_pv.specs.VLoads.{v_load_started, v_load_asked, v_load_taken}
 use Rattle.flit_pv.specs.Stores.{store_started, store_asked, store_taken}
 use Rattle.flit_pv.specs.Exchanges.{exchange_started, exchange_asked, exchange_taken, writing_of}
 use Rattle.flit_pv.specs.Fences.{complete_started, complete_asked, complete_taken}
-use Rattle.flit_rows.specs.declared.take_row.TakeRow.{TakeRow}
+use Rattle.flit_rows.specs.Taking.{HeldTake}
 use Rattle.flit_rows.specs.declared.take_row.Took.{Took}
 use Rattle.flit_rows.specs.declared.take_row.Took.TheVariants.{Taken, None as NoRow}
 use Rattle.flit_rows.specs.declared.take_row.Taking.{Taking}
 use Rattle.flit_rows.specs.declared.take_row.Taking.TheVariants.{Draws, Ended as Take_ended}
 use Rattle.flit_rows.specs.Taking.{take_started, take_asked, take_taken}
 use Rattle.flit_structure.specs.Meanings.{key_of, value_put}
-use Rattle.flit_one_key.specs.declared.operations.At.{At}
-use Rattle.flit_one_key.specs.declared.operations.At.TheVariants.{Head, Key, Value, Row, Words, RowValue, Link, Ends, Rests}
-use Rattle.flit_one_key.specs.declared.operations.SampleOp.{SampleOp}
+use Rattle.flit_one_key.specs.Operations.{At}
+use Rattle.flit_one_key.specs.Operations.{Head, Key, Value, Row, Words, RowValue, Link, Ends, Rests}
+use Rattle.flit_one_key.specs.Operations.{HeldOp}
 
 -- a layout that serves: an accepted list of one row
 pub record IsSmall (l : Layout) : Type 0 where
@@ -81,14 +81,14 @@ with_row_used h = record h { spare = slice_set h.spare 0 0 }
 -- ---- what comes next
 
 -- a search begins with the load of the head
-abbrev pub searches : SampleOp → Hand → SampleOp
+abbrev pub searches : HeldOp → Hand → HeldOp
 searches op hand = record op { at = Head (load_started (with_search hand) 0) }
 
-abbrev pub op_begun : Hand → Call → SampleOp
+abbrev pub op_begun : Hand → Call → HeldOp
 op_begun hand call = searches (record { call = call; reply = No; at = Rests hand }) (with_number hand)
 
 -- the call ends with this reply, once all that is queued is written back
-abbrev pub answers : SampleOp → Hand → Reply → SampleOp
+abbrev pub answers : HeldOp → Hand → Reply → HeldOp
 answers op hand reply = record op { reply = reply; at = Ends (complete_started hand) }
 
 -- an insert's row is used where it is linked
@@ -99,123 +99,126 @@ hand_linked (Contains k) hand = hand
 hand_linked (Get k) hand = hand
 
 -- the head is exchanged: won is Yes, and lost begins again
-abbrev pub linked_so : SampleOp → PExchange → Exchanged → SampleOp
-linked_so op m Won = answers op (hand_linked op.call m.hand) Yes
-linked_so op m (Lost found) = searches op m.hand
-linked_so op m (Exchange_worn word version) = answers op m.hand (Worn word version)
+abbrev pub linked_so : HeldOp → Hand → Exchanged → HeldOp
+linked_so op hand Won = answers op (hand_linked op.call hand) Yes
+linked_so op hand (Lost found) = searches op hand
+linked_so op hand (Exchange_worn word version) = answers op hand (Worn word version)
 
-abbrev pub link_by : SampleOp → PExchange → Exchanging → SampleOp
+abbrev pub link_by : HeldOp → HeldExchange → Exchanging → HeldOp
 link_by op m Ready = record op { at = Link m }
 link_by op m (Tries slot) = record op { at = Link m }
 link_by op m TriesBare = record op { at = Link m }
 link_by op m WritesBack = record op { at = Link m }
 link_by op m Withdraws = record op { at = Link m }
 link_by op m (Lowers slot found) = record op { at = Link m }
-link_by op m (Ended how) = linked_so op m how
+link_by op m (Ended how) = linked_so op m.hand how
 
-abbrev pub link_next : SampleOp → PExchange → SampleOp
+abbrev pub link_next : HeldOp → HeldExchange → HeldOp
 link_next op m = link_by op m m.at
 
-abbrev pub links : Layout → SampleOp → Hand → ℕ → ℕ → SampleOp
+abbrev pub links : Layout → HeldOp → Hand → ℕ → ℕ → HeldOp
 links l op hand head value = link_next op (exchange_started hand 0 head value l.limit)
 
 -- the row's value word is stored, and the row is linked
-abbrev pub row_value_so : Layout → SampleOp → ℕ → PrivateStore → Stored → SampleOp
-row_value_so l op head m All_stored = links l op m.hand head to_row
-row_value_so l op head m (Store_worn word version) = answers op m.hand (Worn word version)
+abbrev pub row_value_so : Layout → HeldOp → ℕ → Hand → Stored → HeldOp
+row_value_so l op head hand All_stored = links l op hand head to_row
+row_value_so l op head hand (Store_worn word version) = answers op hand (Worn word version)
 
-abbrev pub row_value_by : Layout → SampleOp → ℕ → PrivateStore → Storing → SampleOp
+abbrev pub row_value_by : Layout → HeldOp → ℕ → HeldStore → Storing → HeldOp
 row_value_by l op head m (Store_reads how) = record op { at = RowValue head m }
 row_value_by l op head m (Writes next) = record op { at = RowValue head m }
 row_value_by l op head m (Store_makes_room next first) = record op { at = RowValue head m }
-row_value_by l op head m (Store_ended how) = row_value_so l op head m how
+row_value_by l op head m (Store_ended how) = row_value_so l op head m.hand how
 
-abbrev pub row_value_next : Layout → SampleOp → ℕ → PrivateStore → SampleOp
+abbrev pub row_value_next : Layout → HeldOp → ℕ → HeldStore → HeldOp
 row_value_next l op head m = row_value_by l op head m m.at
 
 -- the row's key and link are stored; with values, its value word comes next
-abbrev pub stores_value : Layout → SampleOp → Hand → ℕ → ℕ → SampleOp
+abbrev pub stores_value : Layout → HeldOp → Hand → ℕ → ℕ → HeldOp
 stores_value l op hand head value = row_value_next l op head (store_started hand (value_word l) (value ∷ []) l.limit)
 
-abbrev pub words_so : Layout → SampleOp → ℕ → ℕ → PrivateStore → Stored → SampleOp
-words_so l op head value m All_stored = if l.values then stores_value l op m.hand head value else links l op m.hand head to_row
-words_so l op head value m (Store_worn word version) = answers op m.hand (Worn word version)
+abbrev pub words_so : Layout → HeldOp → ℕ → ℕ → Hand → Stored → HeldOp
+words_so l op head value hand All_stored = if l.values then stores_value l op hand head value else links l op hand head to_row
+words_so l op head value hand (Store_worn word version) = answers op hand (Worn word version)
 
-abbrev pub words_by : Layout → SampleOp → ℕ → ℕ → PrivateStore → Storing → SampleOp
+abbrev pub words_by : Layout → HeldOp → ℕ → ℕ → HeldStore → Storing → HeldOp
 words_by l op head value m (Store_reads how) = record op { at = Words head m }
 words_by l op head value m (Writes next) = record op { at = Words head m }
 words_by l op head value m (Store_makes_room next first) = record op { at = Words head m }
-words_by l op head value m (Store_ended how) = words_so l op head value m how
+words_by l op head value m (Store_ended how) = words_so l op head value m.hand how
 
-abbrev pub words_next : Layout → SampleOp → ℕ → PrivateStore → SampleOp
+abbrev pub words_next : Layout → HeldOp → ℕ → HeldStore → HeldOp
 words_next l op head m = words_by l op head (value_put op.call) m m.at
 
-abbrev pub stores : Layout → SampleOp → Hand → ℕ → SampleOp
+abbrev pub stores : Layout → HeldOp → Hand → ℕ → HeldOp
 stores l op hand head = words_next l op head (store_started hand (key_word l) (key_of op.call ∷ 0 ∷ []) l.limit)
 
 -- a row is taken: where the head links none it is stored, and else the call begins again, as after a lost exchange
-abbrev pub row_taken : Layout → SampleOp → ℕ → Hand → SampleOp
+abbrev pub row_taken : Layout → HeldOp → ℕ → Hand → HeldOp
 row_taken l op head hand = if links_none head then stores l op hand head else searches op hand
 
-abbrev pub row_so : Layout → SampleOp → ℕ → Hand → Took → SampleOp
+abbrev pub row_so : Layout → HeldOp → ℕ → Hand → Took → HeldOp
 row_so l op head hand Taken = row_taken l op head hand
 row_so l op head hand (NoRow ticket) = answers op hand (Full ticket)
 
-abbrev pub row_by : Layout → SampleOp → ℕ → TakeRow → Taking → SampleOp
+abbrev pub row_by : Layout → HeldOp → ℕ → HeldTake → Taking → HeldOp
 row_by l op head m Draws = record op { at = Row head m }
 row_by l op head m (Take_ended took) = row_so l op head m.hand took
 
-abbrev pub row_next : Layout → SampleOp → ℕ → TakeRow → SampleOp
+abbrev pub row_next : Layout → HeldOp → ℕ → HeldTake → HeldOp
 row_next l op head m = row_by l op head m m.at
 
-abbrev pub takes_row : Layout → List ℕ → SampleOp → Hand → ℕ → SampleOp
+abbrev pub takes_row : Layout → List ℕ → HeldOp → Hand → ℕ → HeldOp
 takes_row l free op hand head = row_next l op head (take_started free hand 1)
 
 -- the value is loaded
-abbrev pub value_by : SampleOp → VLoad → VLoading → SampleOp
+abbrev pub value_by : HeldOp → HeldVLoad → VLoading → HeldOp
 value_by op m V_reads = record op { at = Value m }
 value_by op m (V_has raw) = answers op m.hand (Found (value_of raw))
 
-abbrev pub value_next : SampleOp → VLoad → SampleOp
+abbrev pub value_next : HeldOp → HeldVLoad → HeldOp
 value_next op m = value_by op m m.at
 
 -- the row's key is loaded: it is the call's key, or another
-abbrev pub key_is : Layout → SampleOp → Hand → ℕ → Call → SampleOp
+abbrev pub key_is : Layout → HeldOp → Hand → ℕ → Call → HeldOp
 key_is l op hand head (Insert k v) = answers op hand No
 key_is l op hand head (Remove k) = links l op hand head 0
 key_is l op hand head (Contains k) = answers op hand Yes
 key_is l op hand head (Get k) = if l.values then value_next op (v_load_started hand (value_word l)) else answers op hand (Found 0)
 
-abbrev pub key_isnt : Layout → List ℕ → SampleOp → Hand → ℕ → Call → SampleOp
+abbrev pub key_isnt : Layout → List ℕ → HeldOp → Hand → ℕ → Call → HeldOp
 key_isnt l free op hand head (Insert k v) = takes_row l free op hand head
 key_isnt l free op hand head (Remove k) = answers op hand No
 key_isnt l free op hand head (Contains k) = answers op hand No
 key_isnt l free op hand head (Get k) = answers op hand No
 
-abbrev pub key_by : Layout → List ℕ → SampleOp → ℕ → VLoad → VLoading → SampleOp
-key_by l free op head m V_reads = record op { at = Key head m }
-key_by l free op head m (V_has raw) = if value_of raw == key_of op.call then key_is l op m.hand head op.call else key_isnt l free op m.hand head op.call
+abbrev pub key_got : Layout → List ℕ → HeldOp → Hand → ℕ → ℕ → HeldOp
+key_got l free op hand head raw = if value_of raw == key_of op.call then key_is l op hand head op.call else key_isnt l free op hand head op.call
 
-abbrev pub key_next : Layout → List ℕ → SampleOp → ℕ → VLoad → SampleOp
+abbrev pub key_by : Layout → List ℕ → HeldOp → ℕ → HeldVLoad → VLoading → HeldOp
+key_by l free op head m V_reads = record op { at = Key head m }
+key_by l free op head m (V_has raw) = key_got l free op m.hand head raw
+
+abbrev pub key_next : Layout → List ℕ → HeldOp → ℕ → HeldVLoad → HeldOp
 key_next l free op head m = key_by l free op head m m.at
 
 -- the head is loaded, and it links the row or none
-abbrev pub head_none : Layout → List ℕ → SampleOp → Hand → ℕ → Call → SampleOp
+abbrev pub head_none : Layout → List ℕ → HeldOp → Hand → ℕ → Call → HeldOp
 head_none l free op hand head (Insert k v) = takes_row l free op hand head
 head_none l free op hand head (Remove k) = answers op hand No
 head_none l free op hand head (Contains k) = answers op hand No
 head_none l free op hand head (Get k) = answers op hand No
 
-abbrev pub head_so : Layout → List ℕ → SampleOp → Hand → ℕ → SampleOp
+abbrev pub head_so : Layout → List ℕ → HeldOp → Hand → ℕ → HeldOp
 head_so l free op hand head = if links_none head then head_none l free op hand head op.call else key_next l free op head (v_load_started hand (key_word l))
 
-abbrev pub head_by : Layout → List ℕ → SampleOp → PLoad → Loading → SampleOp
+abbrev pub head_by : Layout → List ℕ → HeldOp → HeldLoad → Loading → HeldOp
 head_by l free op m Load_reads = record op { at = Head m }
 head_by l free op m (Asks raw slot) = record op { at = Head m }
 head_by l free op m (Load_makes_room raw first) = record op { at = Head m }
 head_by l free op m (Has raw) = head_so l free op m.hand raw
 
-abbrev pub head_next : Layout → List ℕ → SampleOp → PLoad → SampleOp
+abbrev pub head_next : Layout → List ℕ → HeldOp → HeldLoad → HeldOp
 head_next l free op m = head_by l free op m m.at
 
 -- ---- the whole call
@@ -232,26 +235,26 @@ asked_at p (Link m) = exchange_asked p m
 asked_at p (Ends m) = complete_asked m
 asked_at p (Rests hand) = None
 
-abbrev pub op_asked : Place → SampleOp → Option Event
+abbrev pub op_asked : Place → HeldOp → Option Event
 op_asked p op = asked_at p op.at
 
 -- the call after the event's answer
-abbrev pub taken_at : Layout → Place → List ℕ → SampleOp → At → ℕ → SampleOp
-taken_at l p free op (Head m) told = head_next l free op (load_taken p m told)
-taken_at l p free op (Key head m) told = key_next l free op head (v_load_taken m told)
-taken_at l p free op (Value m) told = value_next op (v_load_taken m told)
-taken_at l p free op (Row head m) told = row_next l op head (take_taken free m told)
-taken_at l p free op (Words head m) told = words_next l op head (store_taken m told)
-taken_at l p free op (RowValue head m) told = row_value_next l op head (store_taken m told)
-taken_at l p free op (Link m) told = link_next op (exchange_taken p m told)
+abbrev pub taken_at : Layout → Place → List ℕ → HeldOp → At → ℕ → HeldOp
+taken_at l p free op (Head m) told = let n = load_taken p m told in head_next l free (record op { at = Head n }) n
+taken_at l p free op (Key head m) told = let n = v_load_taken m told in key_next l free (record op { at = Key head n }) head n
+taken_at l p free op (Value m) told = let n = v_load_taken m told in value_next (record op { at = Value n }) n
+taken_at l p free op (Row head m) told = let n = take_taken free m told in row_next l (record op { at = Row head n }) head n
+taken_at l p free op (Words head m) told = let n = store_taken m told in words_next l (record op { at = Words head n }) head n
+taken_at l p free op (RowValue head m) told = let n = store_taken m told in row_value_next l (record op { at = RowValue head n }) head n
+taken_at l p free op (Link m) told = let n = exchange_taken p m told in link_next (record op { at = Link n }) n
 taken_at l p free op (Ends m) told = record op { at = Ends (complete_taken m told) }
 taken_at l p free op (Rests hand) told = op
 
-abbrev pub op_taken : Layout → Place → List ℕ → SampleOp → ℕ → SampleOp
+abbrev pub op_taken : Layout → Place → List ℕ → HeldOp → ℕ → HeldOp
 op_taken l p free op told = taken_at l p free op op.at told
 
 -- the Exchange that links or unlinks the row comes next, or without a slot its second try
-abbrev pub exchanges_now : Place → Exchanging → PExchange → Bool
+abbrev pub exchanges_now : Place → Exchanging → HeldExchange → Bool
 exchanges_now p Ready m = is_nil m.hand.queue && is_none (p.slot m.word)
 exchanges_now p (Tries slot) m = true
 exchanges_now p TriesBare m = true
@@ -271,12 +274,8 @@ effect_at p (Link m) = exchanges_now p m.at m
 effect_at p (Ends m) = false
 effect_at p (Rests hand) = false
 
-abbrev pub op_effect : Place → SampleOp → Bool
+abbrev pub op_effect : Place → HeldOp → Bool
 op_effect p op = effect_at p op.at
-
--- the reply, once no event comes any more
-abbrev pub op_replied : Place → SampleOp → Option Reply
-op_replied p op = if is_none (op_asked p op) then Some op.reply else None
 
 -- the hand so far
 abbrev pub hand_at : At → Hand

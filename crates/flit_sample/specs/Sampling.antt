@@ -1,14 +1,17 @@
 -- The sample as a structure: the map of at most one key, over its layout, its placement and its pool.
 use Rattle.flit_place.specs.Tags.{Place}
 use Rattle.flit_structure.specs.Meanings.{Meaning}
-use Rattle.flit_structure.specs.Lawful.{Lawful}
-use Rattle.flit_one_key.specs.declared.operations.SampleOp.{SampleOp}
+use Rattle.flit_structure.specs.Lawful.{Lawful, Wrappable}
+use Rattle.flit_one_key.specs.Operations.{HeldOp}
 use Rattle.flit_one_key.specs.OneKey.{one_key}
-use Rattle.flit_one_key.proofs.Lawfulness.{one_key_lawful}
+use Rattle.flit_one_key.proofs.Lawfulness.{one_key_lawful, one_key_wrappable}
 use Rattle.flit_sample.specs.declared.samples.Sample.{Sample}
 
-abbrev pub sample : {P : Type 0} → (P → Place) → Meaning (Sample P) SampleOp
-sample place_of = one_key (λ s. s.layout) (λ s. place_of s.place) (λ s. s.pool)
+abbrev pub sample : {P : Type 0} → (P → Place) → Sample P → Meaning HeldOp
+sample place_of s = one_key s.layout (place_of s.place) s.pool
 
-pub sample_lawful : {P : Type 0} (place_of : P → Place) → Lawful (sample place_of)
-sample_lawful place_of = one_key_lawful (λ s. s.layout) (λ s. place_of s.place) (λ s. s.pool) (λ s. s.small)
+pub sample_lawful : {P : Type 0} (place_of : P → Place) (s : Sample P) → Lawful (sample place_of s)
+sample_lawful place_of s = one_key_lawful s.layout (place_of s.place) s.pool s.small
+
+pub sample_wrappable : {P : Type 0} (place_of : P → Place) (s : Sample P) → Wrappable (sample place_of s)
+sample_wrappable place_of s = one_key_wrappable s.layout (place_of s.place) s.pool

@@ -1,22 +1,28 @@
-ghost use Rattle.std.specs.Prelude.{◌≡◌, IsSome};
-ghost use Rattle.flit_one_key.specs.Steps.{op_asked, op_taken, exchanges_now};
+ghost use Rattle.std.specs.Prelude.{◌≡◌, is_none};
+ghost use Rattle.flit_place.specs.Tags.{Place};
+ghost use Rattle.flit_pv.specs.Exchanges.{exchange_of};
+ghost use Rattle.flit_one_key.specs.Steps.{op_asked, exchanges_now};
 
 use crate::samples::Sample;
-use crate::steps::{link_next, searches, value_next};
+use crate::steps::{answers, linked_so};
+use arrayvec::ArrayVec;
 use flit_model::{Call, Event, Reply, Tally};
-use flit_one_key::{At, SampleOp};
+use flit_one_key::{Phase, SampleOp};
 use flit_place::Placement;
-use flit_pv::{Exchanging, Hand, PExchange};
+use flit_pv::{
+    Complete, Exchanging, Hand, Loading, PExchange, PLoad, PrivateStore, Storing, VLoading,
+};
+use flit_rows::Taking;
 use flit_structure::Structure;
-use flit_words::Layout;
-use std::mem;
+use flit_words::{Layout, Word};
 
 /// Whether the Exchange that links or unlinks the row comes next, or without a slot its second try.
-fn exchanges_now<P: Placement>(place: &P, link: &PExchange) -> bool
-    ensures { result ≡ exchanges_now (P.place place.now) link.now.at link.now }
+fn exchanges_now<P: Placement>(hand: &Hand, place: &P, link: &PExchange) -> bool
+    ensures { result ≡ exchanges_now (P.place place.now) link.now.at
+        (exchange_of hand.now link.now) }
 {
     match link.at {
-        Exchanging::Ready => link.hand.queue.is_empty() && place.slot_of(link.word).is_none(),
+        Exchanging::Ready => hand.queue.is_empty() && place.slot_of(link.word).is_none(),
         Exchanging::Tries { .. } | Exchanging::TriesBare => true,
         Exchanging::WritesBack
         | Exchanging::Withdraws
@@ -25,52 +31,25 @@ fn exchanges_now<P: Placement>(place: &P, link: &PExchange) -> bool
     }
 }
 
-impl<P: Placement + Drop> Sample<P> {
-    /// Gives a call the answer of the event that it asks for.
-    fn go_on(&self, op: &mut SampleOp, answer: u64)
-        requires { IsSome (op_asked (P.place self.now.place) op.old) }
-        ensures { op.new ≡ op_taken self.now.layout (P.place self.now.place) self.now.pool op.old answer }
-    {
-        match mem::replace(&mut op.at, At::Rests(Hand::first(1))) {
-            At::Head(mut load) => {
-                load.take(&self.place, answer);
-                self.head_next(op, load);
-            }
-            At::Key { head, mut load } => {
-                load.take(&self.place, answer);
-                self.key_next(op, head, load);
-            }
-            At::Value(mut load) => {
-                load.take(&self.place, answer);
-                value_next(op, load);
-            }
-            At::Row { head, mut take } => {
-                take.take(&self.pool, answer);
-                self.row_next(op, head, take);
-            }
-            At::Words { head, mut store } => {
-                store.take(&self.place, answer);
-                self.words_next(op, head, store);
-            }
-            At::RowValue { head, mut store } => {
-                store.take(&self.place, answer);
-                self.row_value_next(op, head, store);
-            }
-            At::Link(mut link) => {
-                link.take(&self.place, answer);
-                link_next(op, link);
-            }
-            At::Ends(mut end) => {
-                end.take(&self.place, answer);
-                op.at = At::Ends(end);
-            }
-            At::Rests(hand) => op.at = At::Rests(hand),
-        }
+/// Whether no event comes any more: one look at the phase, and no event is made for it.
+fn rests(op: &SampleOp) -> bool
+    ensures { (p : Place) → result ≡ is_none (op_asked p op.now) }
+{
+    match &op.at {
+        Phase::Head(load) => load.loaded().is_some(),
+        Phase::Key { load, .. } => load.loaded().is_some(),
+        Phase::Value(load) => load.loaded().is_some(),
+        Phase::Row { take, .. } => take.ended().is_some(),
+        Phase::Words { .. } => op.store.ended().is_some(),
+        Phase::RowValue { .. } => op.store.ended().is_some(),
+        Phase::Link(link) => link.ended().is_some(),
+        Phase::Ends => op.hand.queue.is_empty(),
+        Phase::Rests => true,
     }
 }
 
 impl<P: Placement + Drop> Structure for Sample<P> {
-    ghost use Rattle.flit_sample.specs.Sampling.{sample, sample_lawful};
+    ghost use Rattle.flit_sample.specs.Sampling.{sample, sample_lawful, sample_wrappable};
 
     type Op = SampleOp;
 
@@ -82,75 +61,113 @@ impl<P: Placement + Drop> Structure for Sample<P> {
 
     fn start(&self, mut hand: Hand, call: Call) -> SampleOp {
         hand.number += 1;
-        let mut op = SampleOp {
+        hand.tally.tries = hand.tally.tries.saturating_add(1);
+        SampleOp {
             call,
             reply: Reply::No,
-            at: At::Rests(Hand::first(1)),
-        };
-        searches(&mut op, hand);
-        op
+            hand,
+            store: PrivateStore::start(0, ArrayVec::new(), 0),
+            at: Phase::Head(PLoad::start(0)),
+        }
+    }
+
+    #[tactic(auto, using(flit_one_key::specs::Phases::same_hand))]
+    fn start_again(&self, op: &mut SampleOp, call: Call) {
+        op.hand.number += 1;
+        op.hand.tally.tries = op.hand.tally.tries.saturating_add(1);
+        op.call = call;
+        op.reply = Reply::No;
+        op.at = Phase::Head(PLoad::start(0));
     }
 
     fn ask(&self, op: &SampleOp) -> Option<Event> {
         match &op.at {
-            At::Head(load) => load.ask(&self.place),
-            At::Key { load, .. } => load.ask(&self.place),
-            At::Value(load) => load.ask(&self.place),
-            At::Row { take, .. } => take.ask(&self.pool),
-            At::Words { store, .. } => store.ask(&self.place),
-            At::RowValue { store, .. } => store.ask(&self.place),
-            At::Link(link) => link.ask(&self.place),
-            At::Ends(end) => end.ask(&self.place),
-            At::Rests(_) => None,
+            Phase::Head(load) => load.ask(&op.hand, &self.place),
+            Phase::Key { load, .. } => load.ask(&op.hand),
+            Phase::Value(load) => load.ask(&op.hand),
+            Phase::Row { take, .. } => take.ask(&op.hand),
+            Phase::Words { .. } => op.store.ask(&op.hand),
+            Phase::RowValue { .. } => op.store.ask(&op.hand),
+            Phase::Link(link) => link.ask(&op.hand, &self.place),
+            Phase::Ends => Complete.ask(&op.hand),
+            Phase::Rests => None,
         }
     }
 
     fn take(&self, op: &mut SampleOp, answer: u64) {
-        self.go_on(op, answer);
+        match &mut op.at {
+            Phase::Head(load) => {
+                load.take(&mut op.hand, &self.place, answer);
+                if let Loading::Has { raw } = load.at {
+                    self.head_so(op, raw);
+                }
+            }
+            Phase::Key { head, load } => {
+                load.take(&op.hand, answer);
+                let head = *head;
+                if let VLoading::Has { raw } = load.at {
+                    self.key_got(op, head, raw);
+                }
+            }
+            Phase::Value(load) => {
+                load.take(&op.hand, answer);
+                if let VLoading::Has { raw } = load.at {
+                    let value = Word::unpack(raw).value;
+                    answers(op, Reply::Found { value });
+                }
+            }
+            Phase::Row { head, take } => {
+                take.take(&mut op.hand, &self.pool, answer);
+                let head = *head;
+                if let Taking::Ended(took) = take.at {
+                    self.row_so(op, head, took);
+                }
+            }
+            Phase::Words { head } => {
+                let head = *head;
+                op.store.take(&mut op.hand, answer);
+                if let Storing::Ended(how) = op.store.at {
+                    self.words_so(op, head, how);
+                }
+            }
+            Phase::RowValue { head } => {
+                let head = *head;
+                op.store.take(&mut op.hand, answer);
+                if let Storing::Ended(how) = op.store.at {
+                    self.row_value_so(op, head, how);
+                }
+            }
+            Phase::Link(link) => {
+                link.take(&mut op.hand, &self.place, answer);
+                if let Exchanging::Ended(how) = link.at {
+                    linked_so(op, how);
+                }
+            }
+            Phase::Ends => Complete.take(&mut op.hand, answer),
+            Phase::Rests => {}
+        }
     }
 
     fn takes_effect(&self, op: &SampleOp) -> bool {
         match &op.at {
-            At::Link(link) => exchanges_now(&self.place, link),
+            Phase::Link(link) => exchanges_now(&op.hand, &self.place, link),
             _ => false,
         }
     }
 
     fn reply(&self, op: &SampleOp) -> Option<Reply> {
-        if self.ask(op).is_none() {
-            Some(op.reply)
-        } else {
-            None
-        }
+        if rests(op) { Some(op.reply) } else { None }
     }
 
     fn tally(&self, op: &SampleOp) -> Tally {
-        match &op.at {
-            At::Head(load) => load.hand.tally,
-            At::Key { load, .. } => load.hand.tally,
-            At::Value(load) => load.hand.tally,
-            At::Row { take, .. } => take.hand.tally,
-            At::Words { store, .. } => store.hand.tally,
-            At::RowValue { store, .. } => store.hand.tally,
-            At::Link(link) => link.hand.tally,
-            At::Ends(end) => end.fence.hand.tally,
-            At::Rests(hand) => hand.tally,
-        }
+        op.hand.tally
     }
 
     fn finish(&self, op: SampleOp) -> Hand {
-        match op.at {
-            At::Head(load) => load.hand,
-            At::Key { load, .. } => load.hand,
-            At::Value(load) => load.hand,
-            At::Row { take, .. } => take.hand,
-            At::Words { store, .. } => store.hand,
-            At::RowValue { store, .. } => store.hand,
-            At::Link(link) => link.hand,
-            At::Ends(end) => end.fence.hand,
-            At::Rests(hand) => hand,
-        }
+        op.hand
     }
 
     ghost lawful = { sample_lawful P.place };
+
+    ghost wrappable = { sample_wrappable P.place };
 }
