@@ -1,0 +1,191 @@
+-- A call goes on by its own event, where that changes the heap: its machine is further on, or has ended with the event,
+-- and then the next one starts in the heap after it.
+use Rattle.std.proofs.Common.{◌≡◌, ℕ, ◌≤◌, Bool, true, false, List, ◌∷◌, ◌++◌, length, Option, Some, None, refl, sym, ◌∙◌, ap, subst, arith}
+use Rattle.std.specs.Prelude.{Contains}
+use Rattle.std.specs.List.{AllByRecursion}
+use Rattle.flit_words.specs.declared.layouts.Layout.{Layout}
+use Rattle.flit_words.specs.Layouts.{words_of}
+use Rattle.flit_model.specs.States.{State}
+use Rattle.flit_model.specs.Settling.{Progress}
+use Rattle.flit_model.specs.declared.calls.Call.{Call}
+use Rattle.flit_place.specs.Tags.{Place}
+use Rattle.flit_pv.specs.declared.hands.Hand.{Hand}
+use Rattle.flit_runs.specs.Workings as run
+use Rattle.flit_runs.specs.Workings.{Idles, leaves, confirms, goes_for}
+use Rattle.flit_runs.specs.Worlds.{Actor, world_of, writings}
+use Rattle.flit_runs.proofs.Turns.{safe}
+use Rattle.flit_runs.proofs.ExchangeSteps.{around}
+use Rattle.flit_runs.specs.Soundness.{IsSound}
+use Rattle.flit_structure.specs.declared.workers.Worker.{Worker}
+use Rattle.flit_structure.specs.Moments.{Moment, with_workers, busy}
+use Rattle.flit_structure.specs.Meanings.{first_at}
+use Rattle.flit_structure.proofs.Names.{all_both}
+use Rattle.flit_crew.specs.Machines.{Machine, MakesAt, working_in, hand_in, hand_of, has_ended, reads_for}
+use Rattle.flit_crew.specs.Heaps.{Heap, heap_of, IsOpen, IsShut, IsMine, AreOld}
+use Rattle.flit_crew.specs.Anatomies.{own, own_in, deed, gone_on, gone_by}
+use Rattle.flit_crew.specs.Accounts.{HasUpdate, Rows, History, IsSteady}
+use Rattle.flit_crew.specs.Crews.{Crew, Who, AllAct, Holds, StandsRight, left}
+use Rattle.flit_crew.specs.Obligations.{Keeps, IsAfter}
+use Rattle.flit_crew.proofs.Changes.{sound_leaves}
+use Rattle.flit_crew.proofs.Publishing.{Published, published_now, all_published, further_published}
+use Rattle.flit_crew.proofs.Acting.{Split, Moves, AllStay, through, all_last}
+use Rattle.flit_crew.proofs.Updating.{settled_longer}
+use Rattle.flit_crew.proofs.Accounting.{rows_steady, history_steady}
+use Rattle.flit_crew.proofs.Owning.{old_needs, IsOwn, own_row, own_away, lower}
+use Rattle.flit_crew.proofs.Moving.{moved}
+use Rattle.flit_crew.proofs.Arriving.{arrives, Arrived, resting}
+use Rattle.flit_crew.proofs.Going.{r, heap, me_now, busy_now, since, leaves_same, ended_asks, all_shut}
+
+module _ {G Op : Type 0} (c : Crew G Op) (l : Layout) (p : Place) (free : List ℕ) where
+  module _ (keeps : Keeps c l p free) (M : Moment Op) (a : List (Worker Op)) (name number : ℕ) (op : Op) (call : Call) (begun : Option ℕ) (b : List (Worker Op))
+      (holds : Holds c l p free (with_workers M (a ++ busy name number op call begun ∷ b))) (n : ℕ) (settled : n ≤ length M.progress.settled)
+      (s : State) (q : Progress) (given : List ℕ) (ghost : G) where
+    abbrev mine : Split c l p free (heap c l p free keeps M a name number op call begun b holds n settled) a (busy name number op call begun) b holds.actors
+    mine = r c l p free keeps M a name number op call begun b holds n settled
+
+    abbrev here : Heap G
+    here = heap c l p free keeps M a name number op call begun b holds n settled
+
+    abbrev pub N : Moment Op
+    N = record M { state = s; progress = q }
+
+    abbrev pub k : Heap G
+    k = heap_of N given ghost
+
+    abbrev pub now : Option ℕ
+    now = Some (first_at n begun)
+
+    abbrev pub me_as : Actor → Who
+    me_as g = me_now c l p free keeps M a name number op call begun b holds n settled g
+
+    abbrev pub GoneTo : Op → Type 0
+    GoneTo next = Holds c l p free (with_workers N (a ++ busy name number next call now ∷ b))
+
+    pub record WentTo (g : Actor) (m : Machine) : Type 0 where
+      pub after_it : IsAfter c l p free op m
+      pub words : length s.words ≡ words_of l
+      pub slots : length s.slots ≡ l.slots
+      pub moves : Moves c l p free (Some name) here k
+      pub before : AllStay c l p free (Some name) here k a mine.before
+      pub behind : AllStay c l p free (Some name) here k b mine.behind
+      pub sound : IsSound p (λ word. false) (world_of s mine.before g mine.behind)
+      pub at : g.at ≡ working_in m
+      pub name_same : (hand_of g.at).name ≡ name
+      pub number_same : (hand_of g.at).number ≡ number
+      pub reached : AllByRecursion (IsOpen l free k) (goes_for g.at)
+      pub reading : AllByRecursion (IsOpen l free k) (reads_for g.at)
+      pub mine_now : AllByRecursion (IsMine l free k (own c.anatomy (c.anatomy.with_machine op m))) g.private
+      pub right : StandsRight c l p free m
+      pub update : HasUpdate k name number call (first_at n begun) (deed c.anatomy (c.anatomy.with_machine op m))
+      pub rows : Rows c.anatomy l free s.counter k (a ++ busy name number (c.anatomy.with_machine op m) call now ∷ b)
+      pub history : History c.anatomy l free k (a ++ busy name number (c.anatomy.with_machine op m) call now ∷ b)
+      pub knows : c.knows k (me_as g) (c.anatomy.with_machine op m)
+
+    some_none : (x : ℕ) → ◌≡◌ {A = Option ℕ} (Some x) None → ⊥
+    some_none x e = cc
+
+    since_now : (g : Actor) (m : Machine) → WentTo g m → first_at n begun ≤ length k.progress.settled
+    since_now g m w = through (first_at n begun) (length M.progress.settled) (length q.settled)
+        (since c l p free keeps M a name number op call begun b holds n settled) (settled_longer (Some name) here k w.moves.follows)
+
+    still_going : (g : Actor) (m : Machine) → WentTo g m → has_ended p m ≡ false → GoneTo (c.anatomy.with_machine op m)
+    still_going g m w going = moved c l p free keeps M a (busy name number op call begun) b holds s q given ghost
+        (busy name number (c.anatomy.with_machine op m) call now) (published g w).actor refl w.words w.slots (published g w).sound w.moves w.before w.behind
+        (record {
+          at = (published g w).at ∙ w.at ∙ ap working_in (sym (keeps.put op m w.after_it));
+          name = ap (λ y. (hand_of y).name) (published g w).at ∙ w.name_same;
+          number = ap (λ y. (hand_of y).number) (published g w).at ∙ w.number_same;
+          least = mine.mine.least;
+          most = mine.mine.most;
+          reached = subst (λ y. AllByRecursion (IsOpen l free k) (goes_for y)) (sym (published g w).at) w.reached;
+          reading = subst (λ y. AllByRecursion (IsOpen l free k) (reads_for y)) (sym (published g w).at) w.reading;
+          mine = all_published p s mine.before g mine.behind (IsMine l free k (own c.anatomy (c.anatomy.with_machine op m))) (published g w) w.mine_now;
+          published = (published g w).published;
+          doing = record {
+            same_call = keeps.put_call op m w.after_it ∙ (busy_now c l p free keeps M a name number op call begun b holds n settled).same_call;
+            served = (busy_now c l p free keeps M a name number op call begun b holds n settled).served;
+            first = since_now g m w;
+            waits = λ e. absurd (some_none (first_at n begun) e);
+            right = subst (StandsRight c l p free) (sym (keeps.put op m w.after_it)) w.right;
+            going = ap (has_ended p) (keeps.put op m w.after_it) ∙ going;
+            update = w.update;
+            knows = keeps.more k (me_as g) (me_as (published g w).actor) (c.anatomy.with_machine op m) w.moves.is
+                (further_published p s mine.before g mine.behind name number call now (published g w)) w.knows;
+          };
+        }) w.rows w.history
+      where
+        published : (y : Actor) → WentTo y m → Published p s mine.before y mine.behind
+        published y v = published_now p s mine.before y mine.behind v.sound
+
+    goes_over : (g : Actor) (m : Machine) → WentTo g m → has_ended p m ≡ true → GoneTo (c.anatomy.resumed op m)
+    goes_over g m w ended =
+        let me : Who = left c l p free (me_as g) (working_in m) in
+        let hand : Hand = leaves (working_in m) in
+        let with : Op = c.anatomy.with_machine op m in
+        let over : Op = c.anatomy.resumed op m in
+        let asks : run.asks p g.at ≡ None = ap (run.asks p) w.at ∙ ended_asks p m ended in
+        let rests : IsSound p (λ word. false) (world_of s mine.before (resting me hand) mine.behind) =
+        subst (λ x. let v : Actor = record { at = Idles (leaves x); needs = confirms x ++ g.needs; seen = g.seen; private = g.private } in
+        IsSound p (λ word. false) (world_of s mine.before v mine.behind)) w.at
+        (sound_leaves p (λ word. false) s mine.before g mine.behind asks w.sound) in
+        let known = busy_now c l p free keeps M a name number op call begun b holds n settled in
+        let old : AreOld k g.needs = old_needs p (λ word. false) s (around (writings mine.before) (run.writing_at g.at) (writings mine.behind)) k g
+        w.sound.words refl (safe p (λ word. false) s mine.before g mine.behind w.sound) in
+        let goes = keeps.resumes k (me_as g) op m w.after_it w.moves.is known.served (since_now g m w) old known.same_call ended w.knows in
+        let coherent = keeps.coherent k (me_as g) op m w.after_it w.moves.is known.same_call ended w.knows in
+        let names = leaves_same (working_in m) in
+        let left_now : AllAct c l p free k a mine.before = all_last c l p free keeps (Some name) here k w.moves a mine.before w.before mine.left in
+        let right_now : AllAct c l p free k b mine.behind = all_last c l p free keeps (Some name) here k w.moves b mine.behind w.behind mine.right in
+        let others = all_both (λ o. AllByRecursion (IsShut l free k) o.private) mine.before mine.behind (all_shut c l p free k a mine.before left_now)
+        (all_shut c l p free k b mine.behind right_now) in
+        let own_is : (row : ℕ) → Contains (own c.anatomy over) row → IsOwn (λ v. own_in c.anatomy v.doing) free given a b row =
+        λ row has. own_row (λ v. own_in c.anatomy v.doing) free s.counter given a (busy name number with call now) b row (lower free holds.pool.rising)
+        w.rows.dealt (subst (λ rows. Contains rows row) coherent.own has) in
+        let x : Arrived c l p free k s w.words refl mine.before mine.behind others over (λ row has. ((own_is row has).pool, (own_is row has).unlinked))
+        (λ row v has of. own_away c l p free k holds.pool a b mine.before mine.behind left_now right_now row v (own_is row has) of) me hand =
+        arrives c l p free k s w.words refl mine.before mine.behind others over (λ row has. ((own_is row has).pool, (own_is row has).unlinked))
+        (λ row v has of. own_away c l p free k holds.pool a b mine.before mine.behind left_now right_now row v (own_is row has) of) me hand
+        (subst (λ rows. AllByRecursion (IsMine l free k rows) g.private) (sym coherent.own) w.mine_now) rests goes in
+        let y : Published p s mine.before x.actor mine.behind = published_now p s mine.before x.actor mine.behind x.sound in
+        let steady : IsSteady c.anatomy l k (busy name number with call now) (busy name number over call now) = record {
+          own = coherent.own;
+          ticket = ap (λ y. (hand_of y).ticket) (sym x.at) ∙ x.ticket ∙ names.ticket ∙ ap (λ y. (hand_in y).ticket) (sym (keeps.put op m w.after_it));
+          tight = coherent.tight;
+          makes = λ word e is d. (subst (λ y. MakesAt y word) (sym coherent.deed) d.0, d.1);
+        } in
+        moved c l p free keeps M a (busy name number op call begun) b holds s q given ghost (busy name number over call now) y.actor refl w.words w.slots
+        y.sound w.moves w.before w.behind
+        (record {
+          at = y.at ∙ x.at;
+          name = ap (λ z. (hand_of z).name) y.at ∙ x.name ∙ names.name ∙ ap (λ y. (hand_of y).name) (sym w.at) ∙ w.name_same;
+          number = ap (λ z. (hand_of z).number) y.at ∙ x.number ∙ names.number ∙ ap (λ y. (hand_of y).number) (sym w.at) ∙ w.number_same;
+          least = mine.mine.least;
+          most = mine.mine.most;
+          reached = subst (λ z. AllByRecursion (IsOpen l free k) (goes_for z)) (sym y.at) x.reached;
+          reading = subst (λ z. AllByRecursion (IsOpen l free k) (reads_for z)) (sym y.at) x.reading;
+          mine = all_published p s mine.before x.actor mine.behind (IsMine l free k (own c.anatomy over)) y x.mine;
+          published = y.published;
+          doing = record {
+            same_call = x.same_call;
+            served = known.served;
+            first = since_now g m w;
+            waits = λ e. absurd (some_none (first_at n begun) e);
+            right = x.right;
+            going = x.going;
+            update = subst (λ d. HasUpdate k name number call (first_at n begun) d) (sym coherent.deed) w.update;
+            knows = keeps.more k (me_as x.actor) (me_as y.actor) over w.moves.is (further_published p s mine.before x.actor mine.behind name number call now y)
+                x.knows;
+          };
+        })
+        (rows_steady c.anatomy l free s.counter k a (busy name number with call now) (busy name number over call now) b steady w.rows)
+        (history_steady c.anatomy l free k a (busy name number with call now) (busy name number over call now) b refl (same_le number) steady.makes w.history)
+      where
+        same_le : (x : ℕ) → x ≤ x
+        same_le x = omega arith
+
+    pub went_to : (g : Actor) (m : Machine) → WentTo g m → GoneTo (gone_on c.anatomy p op m)
+    went_to g m w = by_end (has_ended p m) refl
+      where
+        by_end : (t : Bool) → has_ended p m ≡ t → GoneTo (gone_by c.anatomy t op m)
+        by_end true e = goes_over g m w e
+        by_end false e = still_going g m w e

@@ -1,0 +1,200 @@
+-- What a structure says of its operations, and what holds of any number of workers that are at them.
+use Rattle.std.specs.Prelude.{◌≡◌, ℕ, ◌^◌, ◌<◌, ◌≤◌, ◌&&◌, Bool, false, List, [], ◌∷◌, ◌++◌, length, drop, Option, Some, None, Contains, if◌then◌else◌}
+use Rattle.std.specs.List.{AllByRecursion}
+use Rattle.flit_words.specs.declared.layouts.Layout.{Layout}
+use Rattle.flit_words.specs.declared.limits.TheConstants.{GREATEST_VERSION}
+use Rattle.flit_words.specs.Layouts.{words_of, Accepted}
+use Rattle.flit_words.specs.Words.{version_of}
+use Rattle.flit_model.specs.declared.calls.Call.{Call}
+use Rattle.flit_model.specs.declared.calls.Entry.{Entry}
+use Rattle.flit_place.specs.Tags.{Place}
+use Rattle.flit_pv.specs.declared.hands.Hand.{Hand}
+use Rattle.flit_rows.specs.Shares.{rows_in}
+use Rattle.flit_rows.specs.Taking.{IsRight, take_started}
+use Rattle.flit_runs.specs.Workings.{Dependency, Working, Task, ToLoad, ToVLoad, ToConfirm, ToExchange, ToVExchange, ToStore, ToFence, ToComplete, ToEvict, asks, started, leaves, confirms, takes_over, words_from, goes_for}
+use Rattle.flit_runs.specs.Worlds.{Seen, HasSeen, IsAway, IsNotStoring}
+use Rattle.flit_runs.specs.Worlds.{Actor}
+use Rattle.flit_runs.specs.Soundness.{IsSound, Needs, owed}
+use Rattle.flit_structure.specs.declared.workers.Doing.{Doing}
+use Rattle.flit_structure.specs.declared.workers.Doing.TheVariants.{Idle, Busy, Evicting}
+use Rattle.flit_structure.specs.declared.workers.Worker.{Worker}
+use Rattle.flit_structure.specs.Moments.{Moment, HaveDifferentNames, update_of}
+use Rattle.flit_structure.specs.Meanings.{IsServed, first_at}
+use Rattle.flit_structure.specs.Lawful.{is_insert, rows_needed}
+use Rattle.flit_crew.specs.Machines.{Machine, Works, Takes, hand_in, hand_of, has_ended, reads_for}
+use Rattle.flit_crew.specs.Heaps.{Heap, heap_of, IsOpen, IsWordOf, IsMine}
+use Rattle.flit_crew.specs.Anatomies.{Anatomy, own, own_in, doing_working, deed}
+use Rattle.flit_crew.specs.Accounts.{IsPool, HasUpdate, Rows, History}
+
+-- what a worker carries that a structure's facts may speak of
+pub record Who : Type 0 where
+  pub name : ℕ
+  pub number : ℕ
+  pub call : Call
+  -- how many updates were settled at the call's first event
+  pub first : ℕ
+  pub needs : List Dependency
+  pub seen : List Seen
+  pub private : List ℕ
+
+-- the same worker, who depends on more and has seen more; fewer words may be private
+pub record IsFurther (me you : Who) : Type 0 where
+  pub name : you.name ≡ me.name
+  pub number : you.number ≡ me.number
+  pub call : you.call ≡ me.call
+  pub first : you.first ≡ me.first
+  pub needs : (w v : ℕ) → Needs me.needs w v → Needs you.needs w v
+  pub seen : (w raw : ℕ) → HasSeen me.seen w raw → HasSeen you.seen w raw
+  pub private : (w : ℕ) → IsAway me.private w → IsAway you.private w
+
+-- ---- a structure: its operations; what is kept true of the heap; what others' and its own changes of the heap leave;
+-- and what an operation knows
+
+pub record Crew (G Op : Type 0) : Type 1 where
+  pub anatomy : Anatomy Op
+  pub kept : Heap G → Type 0
+  -- by one who has this name, or by nobody
+  pub later : Option ℕ → Heap G → Heap G → Type 0
+  pub knows : Heap G → Who → Op → Type 0
+
+module _ {Op : Type 0} (A : Anatomy Op) where
+  -- what its exchange does, where it is won: the update that waits then, and the rows that are linked
+  abbrev pub effect_if : Bool → Who → Option Entry
+  effect_if effects me = if effects then Some (update_of me.name me.number me.call) else None
+
+  abbrev pub effect_of : Op → Who → Option Entry
+  effect_of op me = effect_if (A.effects op) me
+
+  abbrev pub links_of : Op → List ℕ
+  links_of op = if A.effects op && is_insert (A.call op) then rows_in (hand_in (A.machine op)).spare else []
+
+-- ---- all workers
+
+abbrev pub who_of : ℕ → ℕ → Call → Option ℕ → Actor → Who
+who_of name number call begun g = record {
+  name = name;
+  number = number;
+  call = call;
+  first = first_at 0 begun;
+  needs = g.needs;
+  seen = g.seen;
+  private =
+      g.private;
+}
+
+module _ {G Op : Type 0} (c : Crew G Op) (l : Layout) (p : Place) (free : List ℕ) where
+  abbrev anatomy : Anatomy Op
+  anatomy = c.anatomy
+
+  -- a TakeRow stands right, and fills as many places as an insert needs
+  abbrev pub StandsRight : Machine → Type 0
+  StandsRight (Works w) = Unit {0}
+  StandsRight (Takes m) = IsRight free m × (m.need ≡ rows_needed l.kind)
+
+  -- an operation under way
+  pub record IsBusy (h : Heap G) (g : Actor) (name number : ℕ) (op : Op) (call : Call) (begun : Option ℕ) : Type 0 where
+    pub same_call : anatomy.call op ≡ call
+    pub served : IsServed l call
+    pub first : first_at 0 begun ≤ length h.progress.settled
+    -- until its first event it is as it began, and nothing is private
+    pub waits : begun ≡ None → (hand : Hand) × (op ≡ anatomy.begun hand call) × (g.private ≡ [])
+    pub right : StandsRight (anatomy.machine op)
+    pub going : has_ended p (anatomy.machine op) ≡ false
+    pub update : HasUpdate h name number call (first_at 0 begun) (deed anatomy op)
+    pub knows : c.knows h (who_of name number call begun g) op
+
+  abbrev pub IsDoing : Heap G → Actor → ℕ → ℕ → Doing Op → Type 0
+  IsDoing h g name number (Idle hand) = (g.private ≡ []) × (hand.queue ≡ [])
+  IsDoing h g name number (Busy op call begun) = IsBusy h g name number op call begun
+  IsDoing h g name number (Evicting m) = (g.private ≡ []) × (m.hand.queue ≡ []) × (m.word < words_of l)
+
+  -- a worker beside its machine
+  pub record Acts (h : Heap G) (u : Worker Op) (g : Actor) : Type 0 where
+    pub at : g.at ≡ doing_working anatomy u.doing
+    pub name : (hand_of g.at).name ≡ u.name
+    pub number : (hand_of g.at).number ≡ u.number
+    pub least : 1 ≤ u.name
+    pub most : u.name ≤ l.workers
+    -- it loads and exchanges words that everybody may reach; its private words are words of its own rows, not linked
+    pub reached : AllByRecursion (IsOpen l free h) (goes_for g.at)
+    pub reading : AllByRecursion (IsOpen l free h) (reads_for g.at)
+    pub mine : AllByRecursion (IsMine l free h (own_in anatomy u.doing)) g.private
+    -- one that owes nothing and stores nothing has no private words
+    pub published : owed g.at ≡ [] → IsNotStoring g.at → g.private ≡ []
+    pub doing : IsDoing h g u.name u.number u.doing
+
+  abbrev pub AllAct : Heap G → List (Worker Op) → List Actor → Type 0
+  AllAct h [] [] = Unit {0}
+  AllAct h [] (g ∷ gs) = ⊥
+  AllAct h (u ∷ us) [] = ⊥
+  AllAct h (u ∷ us) (g ∷ gs) = Acts h u g × AllAct h us gs
+
+  pub record Holds (M : Moment Op) : Type 0 where
+    pub given : List ℕ
+    pub ghost : G
+    pub actors : List Actor
+    pub accepted : Accepted l
+    pub pool : IsPool l free
+    pub words : length M.state.words ≡ words_of l
+    pub slots : length M.state.slots ≡ l.slots
+    pub sound : IsSound p (λ word. false) (record { state = M.state; workers = actors })
+    pub kept : c.kept (heap_of M given ghost)
+    pub acts : AllAct (heap_of M given ghost) M.workers actors
+    pub rows : Rows anatomy l free M.state.counter (heap_of M given ghost) M.workers
+    pub history : History anatomy l free (heap_of M given ghost) M.workers
+    pub different : HaveDifferentNames M.workers
+
+  -- ---- a call goes on where its machine has ended: it starts its next one, and where that ends without an event, the
+  -- next one
+
+  -- a word of one of the hand's rows, which isn't private yet
+  pub record IsSpareWord (me : Who) (hand : Hand) (w : ℕ) : Type 0 where
+    pub within : w < words_of l
+    pub row : ℕ
+    pub own : Contains (rows_in hand.spare) row
+    pub word : IsWordOf l row w
+    pub away : IsAway me.private w
+
+  abbrev pub MayBegin : Heap G → Who → Hand → Task → Type 0
+  MayBegin h me hand (ToLoad w) = IsOpen l free h w
+  MayBegin h me hand (ToVLoad w) = IsOpen l free h w
+  MayBegin h me hand (ToConfirm w raw) = HasSeen me.seen w raw
+  MayBegin h me hand (ToExchange w old value limit) = IsOpen l free h w × (value < 2 ^ 32) × (limit ≤ GREATEST_VERSION) × Needs me.needs w (version_of old)
+  MayBegin h me hand (ToVExchange w old value limit) = ⊥
+  MayBegin h me hand (ToStore first values limit) = AllByRecursion (IsSpareWord me hand) (words_from first values) × AllByRecursion (λ v. v < 2 ^ 32) values
+      × (limit ≤ GREATEST_VERSION)
+  MayBegin h me hand ToFence = Unit {0}
+  MayBegin h me hand ToComplete = Unit {0}
+  MayBegin h me hand (ToEvict w) = ⊥
+
+  -- its machine has ended, and what it confirmed is depended on
+  abbrev pub left : Who → Working → Who
+  left me w = record me { needs = confirms w ++ me.needs }
+
+  -- more words are private from the start of a task on
+  abbrev pub taking_over : Who → Task → Who
+  taking_over me task = record me { private = takes_over task ++ me.private }
+
+  -- a hand of the same worker with the same queue and the same ticket
+  pub record IsAlike (was now : Hand) : Type 0 where
+    pub name : now.name ≡ was.name
+    pub number : now.number ≡ was.number
+    pub queue : now.queue ≡ was.queue
+    pub ticket : now.ticket ≡ was.ticket
+
+  pub data Goes (h : Heap G) : Who → Hand → Op → Type 0 where
+    starts : (me : Who) (hand : Hand) (task : Task) (op : Op) → MayBegin h me hand task → anatomy.machine op ≡ Works (started task hand) →
+        has_ended p (anatomy.machine op) ≡ false → anatomy.call op ≡ me.call → c.knows h (taking_over me task) op → Goes h me hand op
+    -- it takes rows, where one is missing and its ticket isn't past the end
+    draws : (me : Who) (hand : Hand) (op : Op) → anatomy.machine op ≡ Takes (take_started free hand (rows_needed l.kind)) →
+        has_ended p (anatomy.machine op) ≡ false → anatomy.call op ≡ me.call → c.knows h me op → Goes h me hand op
+    passes : (me : Who) (hand : Hand) (task : Task) (op : Op) → MayBegin h me hand task → takes_over task ≡ [] → asks p (started task hand) ≡ None →
+        Goes h (left me (started task hand)) (leaves (started task hand)) op → Goes h me hand op
+    changes : (me : Who) (hand now : Hand) (op : Op) → IsAlike hand now → Goes h me now op → Goes h me hand op
+
+  -- between two machines of a call no row changes its owner, and no update its place
+  pub record IsCoherent (was now : Op) : Type 0 where
+    pub own : own anatomy now ≡ own anatomy was
+    pub deed : deed anatomy now ≡ deed anatomy was
+    pub tight : rows_in (drop (rows_needed l.kind) (hand_in (anatomy.machine was)).spare) ≡ [] →
+        rows_in (drop (rows_needed l.kind) (hand_in (anatomy.machine now)).spare) ≡ []

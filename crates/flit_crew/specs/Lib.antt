@@ -1,0 +1,9 @@
+pub mod Laws
+pub mod Machines
+pub mod Heaps
+pub mod Anatomies
+pub mod Rows
+pub mod Accounts
+pub mod Crews
+pub mod CrewMeanings
+pub mod Obligations
