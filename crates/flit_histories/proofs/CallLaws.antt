@@ -60,13 +60,16 @@ worn_none worker number (Remove k) word version = refl
 worn_none worker number (Contains k) word version = refl
 worn_none worker number (Get k) word version = refl
 
-all_history : (P : Entry → Type 0) (n : ℕ) (us : List Entry) (reads : List Placed) → AllByRecursion P us → AllByRecursion (λ q. P q.entry) reads → AllByRecursion P (history_from n us reads)
+all_history : (P : Entry → Type 0) (n : ℕ) (us : List Entry) (reads : List Placed) → AllByRecursion P us → AllByRecursion (λ q. P q.entry) reads →
+    AllByRecursion P (history_from n us reads)
 all_history P n [] reads h k = all-reads_at P n reads (all_map (λ q. P q.entry) (λ q. q.position ≡ n → P q.entry) (λ q x e. x) reads k)
 all_history P n (u ∷ us) reads h k =
-    all_both P (reads_at n reads) (u ∷ history_from (suc n) us reads) (all-reads_at P n reads (all_map (λ q. P q.entry) (λ q. q.position ≡ n → P q.entry) (λ q x e. x) reads k))
+    all_both P (reads_at n reads) (u ∷ history_from (suc n) us reads) (all-reads_at P n reads
+    (all_map (λ q. P q.entry) (λ q. q.position ≡ n → P q.entry) (λ q x e. x) reads k))
     (h.0, all_history P (suc n) us reads h.1 k)
 
-same_update : (x : Entry) (worker number : ℕ) (call : Call) → x.worker ≡ worker → x.number ≡ number → x.call ≡ call → x.reply ≡ Yes → x ≡ update_of worker number call
+same_update : (x : Entry) (worker number : ℕ) (call : Call) → x.worker ≡ worker → x.number ≡ number → x.call ≡ call → x.reply ≡ Yes →
+    x ≡ update_of worker number call
 same_update x worker number call hw hn hc hr =
     ap {B = Entry} (λ w. record { worker = w; number = x.number; call = x.call; reply = x.reply }) hw
     ∙ ap {B = Entry} (λ n. record { worker = worker; number = n; call = x.call; reply = x.reply }) hn
@@ -77,14 +80,16 @@ one_place : (items : List Item) (j k : ℕ) (c call : Call) (n : ℕ) → IsCall
 one_place items j k c call n h i = by_place (cases_lt j k) (cases_lt k j)
   where
     by_place : (j < k) ⊎ (k ≤ j) → (k < j) ⊎ (j ≤ k) → c ≡ call
-    by_place (inl less) y = let a = number_at items j c n h in let b = number_at items k call n i in let past = calls_past items j k c h.is less in absurd (omega (arith, a, b, past))
-    by_place (inr le) (inl less) = let a = number_at items j c n h in let b = number_at items k call n i in let past = calls_past items k j call i.is less in absurd (omega (arith, a, b, past))
+    by_place (inl less) y = let a = number_at items j c n h in let b = number_at items k call n i in let past = calls_past items j k c h.is less in
+        absurd (omega (arith, a, b, past))
+    by_place (inr le) (inl less) = let a = number_at items j c n h in let b = number_at items k call n i in let past = calls_past items k j call i.is less in
+        absurd (omega (arith, a, b, past))
     by_place (inr le) (inr ge) = let same : j ≡ k = omega (arith, le, ge) in one_call c call (sym h.is ∙ ap (slice_get items) same ∙ i.is)
       where
         one_call : (x y : Call) → Some (Call_item x) ≡ Some (Call_item y) → x ≡ y
         one_call x y q = cc
 
-module _ {S Op : Type 0} (meaning : Meaning S Op) (l : Lawful meaning) (r : Run S Op) (K : IsSound meaning r) (T : IsTold r) (picks : ℕ → Bool) where
+module _ {Op : Type 0} (meaning : Meaning Op) (l : Lawful meaning) (r : Run Op) (K : IsSound meaning r) (T : IsTold r) (picks : ℕ → Bool) where
   abbrev M : Moment Op
   M = moment_of r K.words K.free
 
@@ -103,11 +108,12 @@ module _ {S Op : Type 0} (meaning : Meaning S Op) (l : Lawful meaning) (r : Run 
     no_reads : AllByRecursion (λ q. NotOf worker number q.entry) r.placed → filter p_of (history_with r picks) ≡ filter p_of (r.progress.settled ++ taken)
     no_reads none =
         filter-append p_of (history_of r.progress.settled r.placed) taken
-        ∙ ap (λ xs. xs ++ filter p_of taken) (filter_updates p_of 0 r.progress.settled r.placed (all_map (λ q. NotOf worker number q.entry) (λ q. p_of q.entry ≡ false) (λ q k. not_of worker number q.entry k) r.placed none))
+        ∙ ap (λ xs. xs ++ filter p_of taken) (filter_updates p_of 0 r.progress.settled r.placed
+        (all_map (λ q. NotOf worker number q.entry) (λ q. p_of q.entry ≡ false) (λ q k. not_of worker number q.entry k) r.placed none))
         ∙ sym (filter-append p_of r.progress.settled taken)
 
     once : length (filter p_of (r.progress.settled ++ taken)) ≤ 1
-    once = made_once meaning l r.structure M K.holds worker number picks
+    once = made_once meaning l M K.holds worker number picks
 
     module _ (call : Call) (reply : Reply) (told : IsToldAs r.progress r.placed worker number call reply) where
       abbrev it : Entry
@@ -119,27 +125,35 @@ module _ {S Op : Type 0} (meaning : Meaning S Op) (l : Lawful meaning) (r : Run 
       as_update : is_update_by call reply ≡ true → filter p_of (history_with r picks) ≡ it ∷ []
       as_update kind =
           let st = told.update kind in
-          let split : r.progress.settled ++ taken ≡ st.0 ++ update_of worker number call ∷ (st.1 ++ taken) = ap (λ xs. xs ++ taken) st.2 ∙ append_assoc st.0 (update_of worker number call ∷ st.1) taken in
+          let split : r.progress.settled ++ taken ≡ st.0 ++ update_of worker number call ∷ (st.1 ++ taken) = ap (λ xs. xs ++ taken) st.2
+          ∙ append_assoc st.0 (update_of worker number call ∷ st.1) taken in
           no_reads (told.unread (update_is_no_read it kind)) ∙ ap (filter p_of) split
-          ∙ filter_only p_of st.0 (st.1 ++ taken) (update_of worker number call) (is_of_it worker number (update_of worker number call) refl refl) (subst (λ xs. length (filter p_of xs) ≤ 1) split once)
+          ∙ filter_only p_of st.0 (st.1 ++ taken) (update_of worker number call) (is_of_it worker number (update_of worker number call) refl refl)
+          (subst (λ xs. length (filter p_of xs) ≤ 1) split once)
           ∙ ap {B = List Entry} (λ y. record { worker = worker; number = number; call = call; reply = y } ∷ []) (sym (update_yes call reply kind))
 
       as_read : is_update_by call reply ≡ false → is_read_by call reply ≡ true → filter p_of (history_with r picks) ≡ it ∷ []
       as_read other kind =
           let o = told.read kind in
           let none = told.unmade other in
-          let f = λ (qs : List Placed) (h : AllByRecursion (λ q. NotOf worker number q.entry) qs). all_map (λ q. NotOf worker number q.entry) (λ q. p_of q.entry ≡ false) (λ q k. not_of worker number q.entry k) qs h in
-          let low : o.read.position ≤ length r.progress.settled = (all_at (IsRightAt r.content r.progress.settled) o.before o.behind o.read (subst (AllByRecursion (IsRightAt r.content r.progress.settled)) o.is K.right)).within in
+          let f = λ (qs : List Placed) (h : AllByRecursion (λ q. NotOf worker number q.entry) qs). all_map (λ q. NotOf worker number q.entry)
+          (λ q. p_of q.entry ≡ false) (λ q k. not_of worker number q.entry k) qs h in
+          let low : o.read.position ≤ length r.progress.settled = (all_at (IsRightAt r.content r.progress.settled) o.before o.behind o.read
+          (subst (AllByRecursion (IsRightAt r.content r.progress.settled)) o.is K.right)).within in
           filter-append p_of (history_of r.progress.settled r.placed) taken
-          ∙ ap (λ xs. filter p_of (history_of r.progress.settled r.placed) ++ xs) (filter_none p_of taken (none_of worker number taken (all_taken (NotOf worker number) r.progress picks (all_right (NotOf worker number) r.progress.settled (waiting_updates r.progress) none))))
+          ∙ ap (λ xs. filter p_of (history_of r.progress.settled r.placed) ++ xs)
+          (filter_none p_of taken (none_of worker number taken (all_taken (NotOf worker number) r.progress picks
+          (all_right (NotOf worker number) r.progress.settled (waiting_updates r.progress) none))))
           ∙ append-nil (filter p_of (history_of r.progress.settled r.placed))
           ∙ ap (λ qs. filter p_of (history_of r.progress.settled qs)) o.is
-          ∙ filter_read p_of o.before o.behind o.read (is_of_it worker number o.read.entry (ap (λ y. y.worker) o.entry) (ap (λ y. y.number) o.entry)) (f o.before o.front) (f o.behind o.back) 0 r.progress.settled (omega arith) (omega (arith, low))
+          ∙ filter_read p_of o.before o.behind o.read (is_of_it worker number o.read.entry (ap (λ y. y.worker) o.entry) (ap (λ y. y.number) o.entry))
+          (f o.before o.front) (f o.behind o.back) 0 r.progress.settled (omega arith) (omega (arith, low))
           (none_of worker number r.progress.settled (all_left (NotOf worker number) r.progress.settled (waiting_updates r.progress) none))
           ∙ ap (λ y. y ∷ []) o.entry
 
       as_none : is_update_by call reply ≡ false → is_read_by call reply ≡ false → filter p_of (history_with r picks) ≡ []
-      as_none other kind = no_reads (told.unread kind) ∙ filter_none p_of (r.progress.settled ++ taken) (none_of worker number (r.progress.settled ++ taken) (all_updates (NotOf worker number) (told.unmade other)))
+      as_none other kind = no_reads (told.unread kind) ∙ filter_none p_of (r.progress.settled ++ taken)
+          (none_of worker number (r.progress.settled ++ taken) (all_updates (NotOf worker number) (told.unmade other)))
 
       told_entries : filter p_of (history_with r picks) ≡ entries_of worker number call reply
       told_entries = by_kind (is_update_by call reply) (is_read_by call reply) refl refl
@@ -154,10 +168,11 @@ module _ {S Op : Type 0} (meaning : Meaning S Op) (l : Lawful meaning) (r : Run 
     named = let n = part.number in omega (arith, n)
 
     told_part : IsToldPart r.progress r.placed worker p
-    told_part = subst (λ n. IsToldPart r.progress r.placed n p) named (all_from_at (IsToldPart r.progress r.placed) 1 a b p (subst (AllFrom (IsToldPart r.progress r.placed) 1) part.is T.each))
+    told_part = subst (λ n. IsToldPart r.progress r.placed n p) named (all_from_at (IsToldPart r.progress r.placed) 1 a b p
+        (subst (AllFrom (IsToldPart r.progress r.placed) 1) part.is T.each))
 
-    sound_part : IsSoundPart meaning r.structure worker p
-    sound_part = subst (λ n. IsSoundPart meaning r.structure n p) named (all_from_at (IsSoundPart meaning r.structure) 1 a b p (subst (AllFrom (IsSoundPart meaning r.structure) 1) part.is K.each))
+    sound_part : IsSoundPart meaning worker p
+    sound_part = subst (λ n. IsSoundPart meaning n p) named (all_from_at (IsSoundPart meaning) 1 a b p (subst (AllFrom (IsSoundPart meaning) 1) part.is K.each))
 
     pub evict_outcome : (k word : ℕ) → slice_get p.items k ≡ Some (Evict_item word) → slice_get p.outcomes k ≡ Some None
     evict_outcome k word is = (told_part).swept k word is
@@ -176,7 +191,8 @@ module _ {S Op : Type 0} (meaning : Meaning S Op) (l : Lawful meaning) (r : Run 
       one_reply : (x y : Reply) → slice_get p.outcomes k ≡ Some (Some (Replied x)) → slice_get p.outcomes k ≡ Some (Some (Replied y)) → x ≡ y
       one_reply x y e f = let q = sym e ∙ f in cc
 
-      pub replied_entries : (reply : Reply) → slice_get p.outcomes k ≡ Some (Some (Replied reply)) → filter (is_of worker number) (history_with r picks) ≡ entries_of worker number call reply
+      pub replied_entries : (reply : Reply) → slice_get p.outcomes k ≡ Some (Some (Replied reply)) →
+          filter (is_of worker number) (history_with r picks) ≡ entries_of worker number call reply
       replied_entries reply is = by_place (cases_lt k p.over)
         where
           by_place : (k < p.over) ⊎ (p.over ≤ k) → filter (is_of worker number) (history_with r picks) ≡ entries_of worker number call reply
@@ -192,7 +208,8 @@ module _ {S Op : Type 0} (meaning : Meaning S Op) (l : Lawful meaning) (r : Run 
       is_its_update x update has is =
           let both = is_of_both worker number x is in
           let at = has_at (HasCall x) 1 a b p (λ n y h. sym h.0 ∙ both.0 ∙ sym named) (subst (HasFrom (HasCall x) 1) part.is has) in
-          same_update x worker number call both.0 both.1 (one_place p.items at.1.0 k x.call call number (subst (IsCallAt p.items at.1.0 x.call) both.1 at.1.1) c) (update_yes x.call x.reply update)
+          same_update x worker number call both.0 both.1 (one_place p.items at.1.0 k x.call call number (subst (IsCallAt p.items at.1.0 x.call) both.1 at.1.1)
+          c) (update_yes x.call x.reply update)
 
       -- a call that has an update and no reply is that which the worker is at
       under_way : p.over ≤ k → (x : Entry) → IsOfHand (workers_of r.parts) x → is_of worker number x ≡ true → IsUnderWayAt p k call
@@ -202,7 +219,8 @@ module _ {S Op : Type 0} (meaning : Meaning S Op) (l : Lawful meaning) (r : Run 
           both = is_of_both worker number x is
 
           same : hand.0 ≡ p.worker
-          same = same_worker (workers_of r.parts) hand.1.0 hand.1.1 (workers_of a) (workers_of b) hand.0 p.worker hand.1.2 (ap workers_of part.is ∙ workers_joined a b p) (l.distinct r.structure M K.holds)
+          same = same_worker (workers_of r.parts) hand.1.0 hand.1.1 (workers_of a) (workers_of b) hand.0 p.worker hand.1.2
+              (ap workers_of part.is ∙ workers_joined a b p) (l.named M K.holds).different
               (hand.2 ∙ (both).0 ∙ sym (sound_part).named)
 
           low : number ≤ calls_in (take p.over p.items) + one_if_busy p.worker.doing
@@ -211,7 +229,8 @@ module _ {S Op : Type 0} (meaning : Meaning S Op) (l : Lawful meaning) (r : Run 
           above : calls_in (take p.over p.items) + 1 ≤ number
           above = let n = number_at p.items k call number c in let rise = calls_rise p.items p.over k le in omega (arith, n, rise)
 
-          by_call : (o : Op) (d : Call) (begun : Option ℕ) → p.worker.doing ≡ Busy o d begun → slice_get p.items p.over ≡ Some (Call_item d) → (p.over < k) ⊎ (k ≤ p.over) → IsUnderWayAt p k call
+          by_call : (o : Op) (d : Call) (begun : Option ℕ) → p.worker.doing ≡ Busy o d begun → slice_get p.items p.over ≡ Some (Call_item d) → (p.over < k)
+              ⊎ (k ≤ p.over) → IsUnderWayAt p k call
           by_call o d begun at_d item (inl less) =
               let past = calls_past p.items p.over k d item less in
               let n = number_at p.items k call number c in
@@ -220,12 +239,18 @@ module _ {S Op : Type 0} (meaning : Meaning S Op) (l : Lawful meaning) (r : Run 
               absurd (omega (arith, past, n, busy, lo))
           by_call o d begun at_d item (inr ge) =
               let equal : k ≡ p.over = omega (arith, le, ge) in
-              record { op = o; begun = begun; next = equal; busy = at_d ∙ ap (λ y. Busy o y begun) (one_call d call (sym item ∙ ap (slice_get p.items) (sym equal) ∙ c.is)) }
+              record {
+                op = o;
+                begun = begun;
+                next = equal;
+                busy = at_d ∙ ap (λ y. Busy o y begun)
+                    (one_call d call (sym item ∙ ap (slice_get p.items) (sym equal) ∙ c.is));
+              }
             where
               one_call : (x y : Call) → Some (Call_item x) ≡ Some (Call_item y) → x ≡ y
               one_call x y q = cc
 
-          by_doing : (d : Doing Op) → p.worker.doing ≡ d → IsAtWork meaning r.structure (slice_get p.items p.over) d → one_if_busy d ≡ one_if_busy d → IsUnderWayAt p k call
+          by_doing : (d : Doing Op) → p.worker.doing ≡ d → IsAtWork meaning (slice_get p.items p.over) d → one_if_busy d ≡ one_if_busy d → IsUnderWayAt p k call
           by_doing (Idle hand) at_d work e = let lo = low in let up = above in let idle = ap one_if_busy at_d in absurd (omega (arith, lo, up, idle))
           by_doing (Busy o d None) at_d work e = absurd work
           by_doing (Busy o d (Some n)) at_d work e = by_call o d (Some n) at_d work.0 (cases_lt p.over k)
@@ -234,15 +259,17 @@ module _ {S Op : Type 0} (meaning : Meaning S Op) (l : Lawful meaning) (r : Run 
       none_read : p.over ≤ k → AllByRecursion (λ q. NotOf worker number q.entry) r.placed
       none_read le =
           all_map (λ q. q.entry.worker ≡ worker → q.entry.number ≤ calls_in (take p.over p.items)) (λ q. NotOf worker number q.entry)
-          (λ q low w m. (let x = low w in let n = number_at p.items k call number c in let rise = calls_rise p.items p.over k le in omega (arith, x, n, rise, m))) r.placed (told_part).low
+          (λ q low w m. (let x = low w in let n = number_at p.items k call number c in let rise = calls_rise p.items p.over k le in
+          omega (arith, x, n, rise, m))) r.placed (told_part).low
 
       abbrev IsIts : Entry → Type 0
       IsIts x = is_of worker number x ≡ true → (x ≡ update_of worker number call) × (p.over ≤ k → IsUnderWayAt p k call)
 
       its_updates : AllByRecursion IsIts (r.progress.settled ++ taken)
-      its_updates = all_updates IsIts (three (made r.progress) (l.updates r.structure M K.holds) T.made_by (l.numbered r.structure M K.holds))
+      its_updates = all_updates IsIts (three (made r.progress) (l.entries M K.holds).updates T.made_by (l.entries M K.holds).numbered)
         where
-          three : (xs : List Entry) → AllByRecursion (λ e. is_update e ≡ true) xs → AllByRecursion (λ e. HasFrom (HasCall e) 1 r.parts) xs → AllByRecursion (IsOfHand (workers_of r.parts)) xs → AllByRecursion IsIts xs
+          three : (xs : List Entry) → AllByRecursion (λ e. is_update e ≡ true) xs → AllByRecursion (λ e. HasFrom (HasCall e) 1 r.parts) xs →
+              AllByRecursion (IsOfHand (workers_of r.parts)) xs → AllByRecursion IsIts xs
           three [] u v w = tt
           three (x ∷ xs) u v w = ((λ is. (is_its_update x u.0 v.0 is, λ le. under_way le x w.0 is)), three xs u.1 v.1 w.1)
 
@@ -262,7 +289,8 @@ module _ {S Op : Type 0} (meaning : Meaning S Op) (l : Lawful meaning) (r : Run 
 
           by_place : (k < p.over) ⊎ (p.over ≤ k) → AtMostIts (filter (is_of worker number) (history_with r picks))
           by_place (inl less) = let o = (told_part).done k call less c.is in absurd (not_both o.0 o.1 is)
-          by_place (inr le) = subst AtMostIts (sym (no_reads worker number (none_read le))) (by_made le (filter (is_of worker number) (r.progress.settled ++ taken)) refl)
+          by_place (inr le) = subst AtMostIts (sym (no_reads worker number (none_read le)))
+              (by_made le (filter (is_of worker number) (r.progress.settled ++ taken)) refl)
 
   of_call : (x : Entry) → HasFrom (HasCall x) 1 r.parts → IsOfCall r x
   of_call x h =

@@ -17,11 +17,13 @@ other_position : (k n : ℕ) → k ≢ n → eqb k n ≡ false
 other_position k n h = grind (arith, nat_tests)
 
 -- what a filter passes is none, or one and the others
-pub filter_split : {X : Type 0} (p : X → Bool) (xs : List X) (y : X) (ys : List X) → filter p xs ≡ y ∷ ys → (f : List X) × (g : List X) × (xs ≡ f ++ y ∷ g) × (p y ≡ true)
+pub filter_split : {X : Type 0} (p : X → Bool) (xs : List X) (y : X) (ys : List X) → filter p xs ≡ y ∷ ys → (f : List X) × (g : List X) × (xs ≡ f ++ y ∷ g)
+    × (p y ≡ true)
 filter_split p [] y ys h = absurd (cc)
 filter_split {X} p (x ∷ xs) y ys h = by_test (p x) refl (filter_split p xs y ys) h
   where
-    by_test : (t : Bool) → p x ≡ t → (filter p xs ≡ y ∷ ys → (f : List X) × (g : List X) × (xs ≡ f ++ y ∷ g) × (p y ≡ true)) → cond t (x ∷ filter p xs) (filter p xs) ≡ y ∷ ys →
+    by_test : (t : Bool) → p x ≡ t → (filter p xs ≡ y ∷ ys → (f : List X) × (g : List X) × (xs ≡ f ++ y ∷ g) × (p y ≡ true)) →
+        cond t (x ∷ filter p xs) (filter p xs) ≡ y ∷ ys →
         (f : List X) × (g : List X) × (x ∷ xs ≡ f ++ y ∷ g) × (p y ≡ true)
     by_test true is rest k = let same : x ≡ y = cc in ([], xs, ap (λ z. z ∷ xs) same, subst (λ z. p z ≡ true) same is)
     by_test false is rest k = let o = rest k in (x ∷ o.0, o.1, ap (λ zs. x ∷ zs) o.2, o.3)
@@ -68,26 +70,33 @@ module _ (p : Entry → Bool) where
       by_test rest false = ap (λ t. cond t (d ∷ filter p (put_in_order x ds)) (filter p (put_in_order x ds))) (none_first d ds none).0 ∙ rest
 
   none_at : (n : ℕ) (reads : List Placed) → AllByRecursion (λ q. p q.entry ≡ false) reads → filter p (reads_at n reads) ≡ []
-  none_at n reads h = filter_none p (reads_at n reads) (all-reads_at (λ x. p x ≡ false) n reads (all_map (λ q. p q.entry ≡ false) (λ q. q.position ≡ n → p q.entry ≡ false) (λ q k i. k) reads h))
+  none_at n reads h = filter_none p (reads_at n reads) (all-reads_at (λ x. p x ≡ false) n reads
+      (all_map (λ q. p q.entry ≡ false) (λ q. q.position ≡ n → p q.entry ≡ false) (λ q k i. k) reads h))
 
   -- where no read passes, the updates that pass
-  pub filter_updates : (n : ℕ) (us : List Entry) (reads : List Placed) → AllByRecursion (λ q. p q.entry ≡ false) reads → filter p (history_from n us reads) ≡ filter p us
+  pub filter_updates : (n : ℕ) (us : List Entry) (reads : List Placed) → AllByRecursion (λ q. p q.entry ≡ false) reads →
+      filter p (history_from n us reads) ≡ filter p us
   filter_updates n [] reads h = none_at n reads h
   filter_updates n (u ∷ us) reads h =
       filter-append p (reads_at n reads) (u ∷ history_from (suc n) us reads)
       ∙ ap (λ xs. xs ++ filter p (u ∷ history_from (suc n) us reads)) (none_at n reads h)
       ∙ ap (λ ys. cond (p u) (u ∷ ys) ys) (filter_updates (suc n) us reads h)
 
-  module _ (front back : List Placed) (q : Placed) (is : p q.entry ≡ true) (f : AllByRecursion (λ x. p x.entry ≡ false) front) (g : AllByRecursion (λ x. p x.entry ≡ false) back) where
-    at_front : (n : ℕ) (xs : List Placed) → AllByRecursion (λ x. p x.entry ≡ false) xs → filter p (reads_at n (xs ++ q ∷ back)) ≡ cond (q.position == n) (q.entry ∷ []) []
+  module _ (front back : List Placed) (q : Placed) (is : p q.entry ≡ true) (f : AllByRecursion (λ x. p x.entry ≡ false) front)
+      (g : AllByRecursion (λ x. p x.entry ≡ false) back) where
+    at_front : (n : ℕ) (xs : List Placed) → AllByRecursion (λ x. p x.entry ≡ false) xs →
+        filter p (reads_at n (xs ++ q ∷ back)) ≡ cond (q.position == n) (q.entry ∷ []) []
     at_front n [] h = by_test (q.position == n)
       where
-        by_test : (t : Bool) → filter p (in_order (map (λ r. r.entry) (cond t (q ∷ filter (λ r. r.position == n) back) (filter (λ r. r.position == n) back)))) ≡ cond t (q.entry ∷ []) []
+        by_test : (t : Bool) → filter p (in_order (map (λ r. r.entry) (cond t (q ∷ filter (λ r. r.position == n) back) (filter (λ r. r.position == n) back)))) ≡
+            cond t (q.entry ∷ []) []
         by_test true = put_in q.entry (reads_at n back) is (none_at n back g)
         by_test false = none_at n back g
     at_front n (x ∷ xs) h = by_test (at_front n xs h.1) (x.position == n)
       where
-        by_test : filter p (reads_at n (xs ++ q ∷ back)) ≡ cond (q.position == n) (q.entry ∷ []) [] → (t : Bool) → filter p (in_order (map (λ r. r.entry) (cond t (x ∷ filter (λ r. r.position == n) (xs ++ q ∷ back)) (filter (λ r. r.position == n) (xs ++ q ∷ back))))) ≡ cond (q.position == n) (q.entry ∷ []) []
+        by_test : filter p (reads_at n (xs ++ q ∷ back)) ≡ cond (q.position == n) (q.entry ∷ []) [] → (t : Bool) →
+            filter p (in_order (map (λ r. r.entry) (cond t (x ∷ filter (λ r. r.position == n) (xs ++ q ∷ back))
+            (filter (λ r. r.position == n) (xs ++ q ∷ back))))) ≡ cond (q.position == n) (q.entry ∷ []) []
         by_test rest true = put_out x.entry (reads_at n (xs ++ q ∷ back)) h.0 ∙ rest
         by_test rest false = rest
 
@@ -98,19 +107,22 @@ module _ (p : Entry → Bool) where
     behind_all n [] less h = at_front n front f ∙ ap (λ t. cond t (q.entry ∷ []) []) (other_position q.position n (λ e. omega (arith, e, less)))
     behind_all n (u ∷ us) less h =
         filter-append p (reads_at n reads) (u ∷ history_from (suc n) us reads)
-        ∙ ap (λ xs. xs ++ filter p (u ∷ history_from (suc n) us reads)) (at_front n front f ∙ ap (λ t. cond t (q.entry ∷ []) []) (other_position q.position n (λ e. omega (arith, e, less))))
+        ∙ ap (λ xs. xs ++ filter p (u ∷ history_from (suc n) us reads)) (at_front n front f
+        ∙ ap (λ t. cond t (q.entry ∷ []) []) (other_position q.position n (λ e. omega (arith, e, less))))
         ∙ ap (λ t. cond t (u ∷ filter p (history_from (suc n) us reads)) (filter p (history_from (suc n) us reads))) h.0
         ∙ behind_all (suc n) us (omega arith) h.1
 
     -- where one read passes and no update, this read
-    pub filter_read : (n : ℕ) (us : List Entry) → n ≤ q.position → q.position ≤ n + length us → AllByRecursion (λ u. p u ≡ false) us → filter p (history_from n us reads) ≡ q.entry ∷ []
+    pub filter_read : (n : ℕ) (us : List Entry) → n ≤ q.position → q.position ≤ n + length us → AllByRecursion (λ u. p u ≡ false) us →
+        filter p (history_from n us reads) ≡ q.entry ∷ []
     filter_read n [] low high h = at_front n front f ∙ ap (λ t. cond t (q.entry ∷ []) []) (same_position q.position n (omega arith))
     filter_read n (u ∷ us) low high h =
         filter-append p (reads_at n reads) (u ∷ history_from (suc n) us reads)
         ∙ ap (λ t. filter p (reads_at n reads) ++ cond t (u ∷ filter p (history_from (suc n) us reads)) (filter p (history_from (suc n) us reads))) h.0
         ∙ by_test (λ apart. filter_read (suc n) us (later q.position n low apart) (omega arith) h.1) (eqb q.position n) refl
       where
-        by_test : (q.position ≢ n → filter p (history_from (suc n) us reads) ≡ q.entry ∷ []) → (t : Bool) → eqb q.position n ≡ t → filter p (reads_at n reads) ++ filter p (history_from (suc n) us reads) ≡ q.entry ∷ []
+        by_test : (q.position ≢ n → filter p (history_from (suc n) us reads) ≡ q.entry ∷ []) → (t : Bool) → eqb q.position n ≡ t →
+            filter p (reads_at n reads) ++ filter p (history_from (suc n) us reads) ≡ q.entry ∷ []
         by_test rest true e =
             let same = eqb-true q.position n e in
             ap (λ xs. xs ++ filter p (history_from (suc n) us reads)) (at_front n front f ∙ ap (λ t. cond t (q.entry ∷ []) []) e)

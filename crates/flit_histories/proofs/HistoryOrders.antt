@@ -22,10 +22,12 @@ no_more n = omega arith
 one_more : (n k : ℕ) → suc n + k ≡ n + suc k
 one_more n k = omega arith
 
-pub history_cut : (n : ℕ) (us vs : List Entry) (reads : List Placed) → history_from n (us ++ vs) reads ≡ upto n us reads ++ history_from (n + length us) vs reads
+pub history_cut : (n : ℕ) (us vs : List Entry) (reads : List Placed) → history_from n (us ++ vs) reads ≡ upto n us reads ++ history_from (n + length us) vs
+    reads
 history_cut n [] vs reads = ap (λ k. history_from k vs reads) (no_more n)
 history_cut n (u ∷ us) vs reads =
-    ap (λ xs. reads_at n reads ++ u ∷ xs) (history_cut (suc n) us vs reads ∙ ap (λ k. upto (suc n) us reads ++ history_from k vs reads) (one_more n (length us)))
+    ap (λ xs. reads_at n reads ++ u ∷ xs) (history_cut (suc n) us vs reads
+    ∙ ap (λ k. upto (suc n) us reads ++ history_from k vs reads) (one_more n (length us)))
     ∙ sym (append_assoc (reads_at n reads) (u ∷ upto (suc n) us reads) (history_from (n + suc (length us)) vs reads))
 
 pub history_first : (n : ℕ) (us : List Entry) (reads : List Placed) → history_from n us reads ≡ reads_at n reads ++ behind_reads n us reads
@@ -33,24 +35,39 @@ history_first n [] reads = sym (append-nil (reads_at n reads))
 history_first n (u ∷ us) reads = refl
 
 -- what is true of the updates before a place and of the reads of lower positions
-pub all_upto : (P : Entry → Type 0) (n : ℕ) (us : List Entry) (reads : List Placed) → AllByRecursion P us → AllByRecursion (λ q. q.position < n + length us → P q.entry) reads → AllByRecursion P (upto n us reads)
+pub all_upto : (P : Entry → Type 0) (n : ℕ) (us : List Entry) (reads : List Placed) → AllByRecursion P us →
+    AllByRecursion (λ q. q.position < n + length us → P q.entry) reads → AllByRecursion P (upto n us reads)
 all_upto P n [] reads h k = tt
 all_upto P n (u ∷ us) reads h k =
     all_both P (reads_at n reads) (u ∷ upto (suc n) us reads)
-    (all-reads_at P n reads (all_map (λ q. q.position < n + suc (length us) → P q.entry) (λ q. q.position ≡ n → P q.entry) (λ q f e. f (omega (arith, e))) reads k))
-    (h.0, all_upto P (suc n) us reads h.1 (all_map (λ q. q.position < n + suc (length us) → P q.entry) (λ q. q.position < suc n + length us → P q.entry) (λ q f e. f (omega (arith, e))) reads k))
+    (all-reads_at P n reads (all_map (λ q. q.position < n + suc (length us) → P q.entry) (λ q. q.position ≡ n → P q.entry) (λ q f e. f (omega (arith, e))) reads
+    k)) (
+      h.0,
+      all_upto P (suc n) us reads h.1 (all_map (λ q. q.position < n + suc (length us) → P q.entry) (λ q. q.position < suc n + length us → P q.entry)
+          (λ q f e. f (omega (arith, e))) reads k),
+    )
 
-all_from : (P : Entry → Type 0) (n : ℕ) (us : List Entry) (reads : List Placed) → AllByRecursion P us → AllByRecursion (λ q. n ≤ q.position → P q.entry) reads → AllByRecursion P (history_from n us reads)
-all_from P n [] reads h k = all-reads_at P n reads (all_map (λ q. n ≤ q.position → P q.entry) (λ q. q.position ≡ n → P q.entry) (λ q f e. f (omega (arith, e))) reads k)
+all_from : (P : Entry → Type 0) (n : ℕ) (us : List Entry) (reads : List Placed) → AllByRecursion P us → AllByRecursion (λ q. n ≤ q.position → P q.entry) reads →
+    AllByRecursion P (history_from n us reads)
+all_from P n [] reads h k = all-reads_at P n reads (all_map (λ q. n ≤ q.position → P q.entry) (λ q. q.position ≡ n → P q.entry) (λ q f e. f (omega (arith, e)))
+    reads k)
 all_from P n (u ∷ us) reads h k =
     all_both P (reads_at n reads) (u ∷ history_from (suc n) us reads)
-    (all-reads_at P n reads (all_map (λ q. n ≤ q.position → P q.entry) (λ q. q.position ≡ n → P q.entry) (λ q f e. f (omega (arith, e))) reads k))
-    (h.0, all_from P (suc n) us reads h.1 (all_map (λ q. n ≤ q.position → P q.entry) (λ q. suc n ≤ q.position → P q.entry) (λ q f e. f (omega (arith, e))) reads k))
+    (all-reads_at P n reads (all_map (λ q. n ≤ q.position → P q.entry) (λ q. q.position ≡ n → P q.entry) (λ q f e. f (omega (arith, e))) reads k)) (
+      h.0,
+      all_from P (suc n) us reads h.1 (all_map (λ q. n ≤ q.position → P q.entry) (λ q. suc n ≤ q.position → P q.entry) (λ q f e. f (omega (arith, e))) reads
+          k),
+    )
 
 -- and of those behind the reads of the place
-pub all_behind : (P : Entry → Type 0) (n : ℕ) (us : List Entry) (reads : List Placed) → AllByRecursion P us → AllByRecursion (λ q. n < q.position → P q.entry) reads → AllByRecursion P (behind_reads n us reads)
+pub all_behind : (P : Entry → Type 0) (n : ℕ) (us : List Entry) (reads : List Placed) → AllByRecursion P us →
+    AllByRecursion (λ q. n < q.position → P q.entry) reads → AllByRecursion P (behind_reads n us reads)
 all_behind P n [] reads h k = tt
-all_behind P n (u ∷ us) reads h k = (h.0, all_from P (suc n) us reads h.1 (all_map (λ q. n < q.position → P q.entry) (λ q. suc n ≤ q.position → P q.entry) (λ q f e. f (omega (arith, e))) reads k))
+all_behind P n (u ∷ us) reads h k = (
+  h.0,
+  all_from P (suc n) us reads h.1
+      (all_map (λ q. n < q.position → P q.entry) (λ q. suc n ≤ q.position → P q.entry) (λ q f e. f (omega (arith, e))) reads k),
+)
 
 module _ {X : Type 0} where
   in_more : (y : X) (xs : List X) (x : X) → IsIn xs x → IsIn (y ∷ xs) x
@@ -75,7 +92,8 @@ module _ {X : Type 0} where
     h.0,
     h.1 ++ k.0,
     k.1,
-    ap (λ zs. zs ++ ys) h.2 ∙ append_assoc h.0 (x ∷ h.1) ys ∙ ap (λ zs. h.0 ++ x ∷ (h.1 ++ zs)) k.2 ∙ ap (λ zs. h.0 ++ x ∷ zs) (sym (append_assoc h.1 k.0 (y ∷ k.1))),
+    ap (λ zs. zs ++ ys) h.2 ∙ append_assoc h.0 (x ∷ h.1) ys ∙ ap (λ zs. h.0 ++ x ∷ (h.1 ++ zs)) k.2
+        ∙ ap (λ zs. h.0 ++ x ∷ zs) (sym (append_assoc h.1 k.0 (y ∷ k.1))),
   )
 
   -- with more in front

@@ -43,7 +43,8 @@ all_entries (e ∷ es) h = (
   behind es (all_above e.0 es (first _ _ h)) (all_entries es (second _ _ h)),
 )
   where
-    behind : (fs : List (ℕ × Entry)) → AllByRecursion (λ f. e.0 < f.0) fs → AllByRecursion (λ f. find nat_cmp f.0 es ≡ Some f.1) fs → AllByRecursion (λ f. find nat_cmp f.0 (e ∷ es) ≡ Some f.1) fs
+    behind : (fs : List (ℕ × Entry)) → AllByRecursion (λ f. e.0 < f.0) fs → AllByRecursion (λ f. find nat_cmp f.0 es ≡ Some f.1) fs →
+        AllByRecursion (λ f. find nat_cmp f.0 (e ∷ es) ≡ Some f.1) fs
     behind [] a k = tt
     behind (f ∷ fs) a k = (ap (λ b. cond b (Some e.1) (find nat_cmp f.0 es)) (unsigned_tied f.0 e.0 ∙ apart f.0 e.0 a.0) ∙ k.0, behind fs a.1 k.1)
       where
@@ -54,7 +55,8 @@ all_entries (e ∷ es) h = (
 pub all_values : (P : Entry → Type 0) (w : FinMap nat_cmp Entry) → ((k : ℕ) (x : Entry) → fin.get w k ≡ Some x → P x) → AllByRecursion P (fin.values w)
 all_values P w f =
     all-map P (λ e. e.1) (fin.entries w)
-    (all_map (λ e. find nat_cmp e.0 (fin.entries w) ≡ Some e.1) (λ e. P e.1) (λ e is. f e.0 e.1 (get-entries w e.0 ∙ is)) (fin.entries w) (all_entries (fin.entries w) (entries_sorted w)))
+    (all_map (λ e. find nat_cmp e.0 (fin.entries w) ≡ Some e.1) (λ e. P e.1) (λ e is. f e.0 e.1 (get-entries w e.0 ∙ is)) (fin.entries w)
+    (all_entries (fin.entries w) (entries_sorted w)))
 
 pub nothing_is_made : (P : Entry → Type 0) → AllByRecursion P (made nothing_made)
 nothing_is_made P = all_values P fin.empty (λ k x is. absurd (none-some x (sym (get-empty nat_cmp k) ∙ is)))
@@ -71,12 +73,14 @@ module _ (P : Entry → Type 0) (p : Progress) (h : AllByRecursion P (made p)) w
   waits : (k : ℕ) (x : Entry) → fin.get p.waiting k ≡ Some x → P x
   waits k x is = all_waiting P p k x is (all_right P p.settled (waiting_updates p) h)
 
-  exchanged : (word : ℕ) (b : Bool) (effect : Option Entry) → ((x : Entry) → b ≡ true → effect ≡ Some x → P x) → AllByRecursion P (made (cond b (takes_effect p word effect) p))
+  exchanged : (word : ℕ) (b : Bool) (effect : Option Entry) → ((x : Entry) → b ≡ true → effect ≡ Some x → P x) →
+      AllByRecursion P (made (cond b (takes_effect p word effect) p))
   exchanged word false effect new = h
   exchanged word true None new = h
   exchanged word true (Some x) new =
       all_both P p.settled (fin.values (fin.insert p.waiting word x)) (all_left P p.settled (waiting_updates p) h)
-      (all_values P (fin.insert p.waiting word x) (λ k y is. put_case (eqb k word) (fin.get p.waiting k) x y (sym (get_put p.waiting word x k) ∙ is) (new x refl refl) (waits k y)))
+      (all_values P (fin.insert p.waiting word x) (λ k y is. put_case (eqb k word) (fin.get p.waiting k) x y (sym (get_put p.waiting word x k) ∙ is)
+      (new x refl refl) (waits k y)))
 
   persisted : (word : ℕ) (b : Bool) (o : Option Entry) → fin.get p.waiting word ≡ o → AllByRecursion P (made (cond b (settles p word o) p))
   persisted word false o is = h
@@ -86,13 +90,15 @@ module _ (P : Entry → Type 0) (p : Progress) (h : AllByRecursion P (made p)) w
       (all_both P p.settled (x ∷ []) (all_left P p.settled (waiting_updates p) h) (waits word x is, tt))
       (all_values P (fin.remove p.waiting word) (λ k y got. gone_case (eqb k word) (fin.get p.waiting k) y (sym (get_gone p.waiting word k) ∙ got) (waits k y)))
 
-  pub made_after : (m : State) (e : Event) (effect : Option Entry) → ((word from to : ℕ) (x : Entry) → e ≡ Exchange word from to → word_at m word ≡ from → effect ≡ Some x → P x) →
+  pub made_after : (m : State) (e : Event) (effect : Option Entry) → ((word from to : ℕ) (x : Entry) → e ≡ Exchange word from to → word_at m word ≡ from →
+      effect ≡ Some x → P x) →
       AllByRecursion P (made (progress_after p m e effect))
   made_after m (Load word) effect new = h
   made_after m (ReadTag slot) effect new = h
   made_after m (Raise slot) effect new = h
   made_after m (Lower slot) effect new = h
-  made_after m (Exchange word from to) effect new = exchanged word (eqb (word_at m word) from) effect (λ x won is. new word from to x refl (eqb-true (word_at m word) from won) is)
+  made_after m (Exchange word from to) effect new = exchanged word (eqb (word_at m word) from) effect
+      (λ x won is. new word from to x refl (eqb-true (word_at m word) from won) is)
   made_after m (Persist word kept) effect new = persisted word (nat_lt (shadow_at m word) kept) (fin.get p.waiting word) refl
   made_after m (Store word to) effect new = h
   made_after m Draw effect new = h

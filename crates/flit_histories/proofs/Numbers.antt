@@ -32,11 +32,13 @@ calls_short (i ∷ is) (suc k) = let r = calls_short is k in let o = one_at_most
 pub number_at : (items : List Item) (k : ℕ) (call : Call) (n : ℕ) → IsCallAt items k call n → n ≡ calls_in (take k items) + 1
 number_at items k call n h = h.counts ∙ calls_next items k (Call_item call) h.is
 
-pub call_at : (items : List Item) (k : ℕ) (call : Call) (n : ℕ) → slice_get items k ≡ Some (Call_item call) → n ≡ calls_in (take k items) + 1 → IsCallAt items k call n
+pub call_at : (items : List Item) (k : ℕ) (call : Call) (n : ℕ) → slice_get items k ≡ Some (Call_item call) → n ≡ calls_in (take k items) + 1 →
+    IsCallAt items k call n
 call_at items k call n is e = record { is = is; counts = e ∙ sym (calls_next items k (Call_item call) is) }
 
 -- a later place has more calls before it than a call that stands before it
-pub calls_past : (items : List Item) (k j : ℕ) (call : Call) → slice_get items k ≡ Some (Call_item call) → k < j → calls_in (take k items) + 1 ≤ calls_in (take j items)
+pub calls_past : (items : List Item) (k j : ℕ) (call : Call) → slice_get items k ≡ Some (Call_item call) → k < j →
+    calls_in (take k items) + 1 ≤ calls_in (take j items)
 calls_past items k j call is h =
     let next = calls_next items k (Call_item call) is in
     let rise = calls_rise items (k + 1) j (omega arith) in

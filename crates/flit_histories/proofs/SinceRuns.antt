@@ -45,7 +45,7 @@ abbrev pub IsBegunIn : {Op : Type 0} → ℕ → ℕ → ℕ → ℕ → Part Op
 IsBegunIn low w n name p = name ≡ w → p.worker.number ≡ n → IsBegunFrom low p.worker.doing
 
 -- nothing has come of the call since
-pub record IsPast {S Op : Type 0} (r : Run S Op) (w n : ℕ) (q : Run S Op) : Type 0 where
+pub record IsPast {Op : Type 0} (r : Run Op) (w n : ℕ) (q : Run Op) : Type 0 where
   pub past : AllFrom (IsPastIn w n) 1 q.parts
   pub none : AllByRecursion (NotOf w n) (made r.progress) → AllByRecursion (NotOf w n) (made q.progress)
   pub more : List Placed
@@ -53,24 +53,26 @@ pub record IsPast {S Op : Type 0} (r : Run S Op) (w n : ℕ) (q : Run S Op) : Ty
   pub new : AllByRecursion (λ x. NotOf w n x.entry) more
 
 -- what came of the call since came behind
-pub record IsBehind {S Op : Type 0} (r : Run S Op) (w n : ℕ) (q : Run S Op) : Type 0 where
+pub record IsBehind {Op : Type 0} (r : Run Op) (w n : ℕ) (q : Run Op) : Type 0 where
   pub begun : AllFrom (IsBegunIn (length r.progress.settled) w n) 1 q.parts
   pub reads : AllByRecursion (λ x. x.entry.worker ≡ w → x.entry.number ≡ n → length r.progress.settled ≤ x.position) q.placed
 
-module _ {S Op : Type 0} (meaning : Meaning S Op) (s : S) where
-  over_up : (over : ℕ) (o : Option Hand) → over ≤ over_after meaning s over o
+module _ {Op : Type 0} (meaning : Meaning Op) where
+  over_up : (over : ℕ) (o : Option Hand) → over ≤ over_after meaning over o
   over_up over None = omega arith
   over_up over (Some hand) = omega arith
 
-  rests_from : (low : ℕ) (d : Doing Op) (o : Option Hand) → IsBegunFrom low d → IsBegunFrom low (rests meaning s d o)
+  rests_from : (low : ℕ) (d : Doing Op) (o : Option Hand) → IsBegunFrom low d → IsBegunFrom low (rests meaning d o)
   rests_from low d None h = h
   rests_from low d (Some hand) h = tt
 
   begun_some : (low first : ℕ) (begun : Option ℕ) → Some first ≡ begun → low ≤ first → low ≤ first_at 0 begun
   begun_some low first begun e h = subst (λ o. low ≤ first_at 0 o) e h
 
-  from_begun : (low settled name number told n : ℕ) (doing : Doing Op) (item : Option Item) (op : Op) (call : Call) (begun : Option ℕ) → low ≤ settled → (number ≡ n → IsBegunFrom low doing) →
-      goes_on meaning s settled (enters meaning s (at name number doing) doing item).doing told ≡ Busy op call begun → (enters meaning s (at name number doing) doing item).number ≡ n → low ≤ first_at 0 begun
+  from_begun : (low settled name number told n : ℕ) (doing : Doing Op) (item : Option Item) (op : Op) (call : Call) (begun : Option ℕ) → low ≤ settled →
+      (number ≡ n → IsBegunFrom low doing) →
+      goes_on meaning settled (enters meaning (at name number doing) doing item).doing told ≡ Busy op call begun →
+      (enters meaning (at name number doing) doing item).number ≡ n → low ≤ first_at 0 begun
   from_begun low settled name number told n (Idle hand) None op call begun le h e same = absurd (cc)
   from_begun low settled name number told n (Idle hand) (Some (Call_item c)) op call begun le h e same = begun_some low settled begun (cc) le
   from_begun low settled name number told n (Idle hand) (Some (Evict_item word)) op call begun le h e same = absurd (cc)
@@ -78,7 +80,8 @@ module _ {S Op : Type 0} (meaning : Meaning S Op) (s : S) where
   from_begun low settled name number told n (Busy o c (Some m)) item op call begun le h e same = begun_some low m begun (cc) (h same)
   from_begun low settled name number told n (Evicting evict) item op call begun le h e same = absurd (cc)
 
-module _ {S Op : Type 0} (meaning : Meaning S Op) (l : Lawful meaning) (r : Run S Op) (w n : ℕ) (q : Run S Op) (a : List (Part Op)) (p : Part Op) (b : List (Part Op)) (e : Event) (reads : List Placed)
+module _ {Op : Type 0} (meaning : Meaning Op) (l : Lawful meaning) (r : Run Op) (w n : ℕ) (q : Run Op) (a : List (Part Op)) (p : Part Op) (b : List (Part Op))
+    (e : Event) (reads : List Placed)
     (t : Makes meaning q a p b e reads) (K : sound.IsSound meaning q) (T : IsTold q) where
   abbrev number : ℕ
   number = (sound.u meaning l q a p b e reads t K).number
@@ -95,14 +98,16 @@ module _ {S Op : Type 0} (meaning : Meaning S Op) (l : Lawful meaning) (r : Run 
   past_after : IsPast r w n q → IsPast r w n (turned_run meaning q a p b e reads)
   past_after h = record {
     past = all_from_put (IsPastIn w n) (IsPastIn w n) 1 a b p (part_made meaning q p e) (λ m x apart k. k)
-        (λ is. (let k = own is in let rise = calls_rise p.items p.over (over_after meaning q.structure p.over (hand_over meaning q.structure d)) (over_up meaning q.structure p.over (hand_over meaning q.structure d)) in omega (arith, k, rise)))
+        (λ is. (let k = own is in let rise = calls_rise p.items p.over (over_after meaning p.over (hand_over meaning d))
+        (over_up meaning p.over (hand_over meaning d)) in omega (arith, k, rise)))
         (subst (AllFrom (IsPastIn w n) 1) t.is h.past);
-    none = λ k. made_after (NotOf w n) q.progress (h.none k) q.state e (effect_by meaning q.structure (sound.u meaning l q a p b e reads t K))
+    none = λ k. made_after (NotOf w n) q.progress (h.none k) q.state e (effect_by meaning (sound.u meaning l q a p b e reads t K))
         (λ word from to x is found effect. not_next x (told.next_effects meaning l q a p b e reads t K T word from to x is found effect));
     more = h.more ++ reads;
     placed = ap (λ xs. xs ++ reads) h.placed ∙ append_assoc r.placed h.more reads;
     new = all_both (λ x. NotOf w n x.entry) h.more reads h.new
-        (all_map (λ x. told.IsNext meaning l q a p b e reads t K T x.entry) (λ x. NotOf w n x.entry) (λ x k. not_next x.entry k) reads (told.next_reads meaning l q a p b e reads t K T));
+        (all_map (λ x. told.IsNext meaning l q a p b e reads t K T x.entry) (λ x. NotOf w n x.entry) (λ x k. not_next x.entry k) reads
+        (told.next_reads meaning l q a p b e reads t K T));
   }
     where
       own : 1 + length a ≡ w → n ≤ calls_in (take p.over p.items)
@@ -114,10 +119,11 @@ module _ {S Op : Type 0} (meaning : Meaning S Op) (l : Lawful meaning) (r : Run 
   behind_after : length r.progress.settled ≤ length q.progress.settled → IsBehind r w n q → IsBehind r w n (turned_run meaning q a p b e reads)
   behind_after grown h = record {
     begun = all_from_put (IsBegunIn low w n) (IsBegunIn low w n) 1 a b p (part_made meaning q p e) (λ m x apart k. k)
-        (λ is same. rests_from meaning q.structure low d (hand_over meaning q.structure d) (by_doing is same d refl))
+        (λ is same. rests_from meaning low d (hand_over meaning d) (by_doing is same d refl))
         (subst (AllFrom (IsBegunIn low w n) 1) t.is h.begun);
     reads = all_both (λ x. x.entry.worker ≡ w → x.entry.number ≡ n → low ≤ x.position) q.placed reads h.reads
-        (all_map (ReadNow meaning q.structure q.content (progress_made meaning q p e).settled (sound.u meaning l q a p b e reads t K).name number d) (λ x. x.entry.worker ≡ w → x.entry.number ≡ n → low ≤ x.position)
+        (all_map (ReadNow meaning q.content (progress_made meaning q p e).settled (sound.u meaning l q a p b e reads t K).name number d)
+        (λ x. x.entry.worker ≡ w → x.entry.number ≡ n → low ≤ x.position)
         (λ x k hw hn. (let f = k.placed.from in
         let g = d_from (sym named ∙ sym (ap (λ y. y.worker) k.entry) ∙ hw) (sym (ap (λ y. y.number) k.entry) ∙ hn) k.op k.call k.begun k.doing in
         omega (arith, f, g)))
@@ -126,7 +132,8 @@ module _ {S Op : Type 0} (meaning : Meaning S Op) (l : Lawful meaning) (r : Run 
     where
       d_from : 1 + length a ≡ w → number ≡ n → (op : Op) (call : Call) (begun : Option ℕ) → d ≡ Busy op call begun → low ≤ first_at 0 begun
       d_from is same op call begun doing =
-          from_begun meaning q.structure low (length q.progress.settled) p.worker.name p.worker.number (answer q.state e) n p.worker.doing (slice_get p.items p.over) op call begun grown
+          from_begun meaning low (length q.progress.settled) p.worker.name p.worker.number (answer q.state e) n p.worker.doing (slice_get p.items p.over) op
+          call begun grown
           (all_from_at (IsBegunIn low w n) 1 a b p (subst (AllFrom (IsBegunIn low w n) 1) t.is h.begun) is) doing same
 
       by_doing : 1 + length a ≡ w → number ≡ n → (x : Doing Op) → d ≡ x → IsBegunFrom low x
@@ -135,31 +142,34 @@ module _ {S Op : Type 0} (meaning : Meaning S Op) (l : Lawful meaning) (r : Run 
       by_doing is same (Busy op call (Some first)) k = d_from is same op call (Some first) k
       by_doing is same (Evicting evict) k = tt
 
-module _ {S Op : Type 0} (meaning : Meaning S Op) (l : Lawful meaning) (r : Run S Op) (K : sound.IsSound meaning r) (T : IsTold r) where
+module _ {Op : Type 0} (meaning : Meaning Op) (l : Lawful meaning) (r : Run Op) (K : sound.IsSound meaning r) (T : IsTold r) where
   -- the updates that are settled stay settled
-  settled_turned : (q next : Run S Op) (worker : ℕ) (e : Event) (told_it : ℕ) → Turned meaning q worker e told_it next → sound.IsSound meaning q → (more : List Entry) × (next.progress.settled ≡ q.progress.settled ++ more)
+  settled_turned : (q next : Run Op) (worker : ℕ) (e : Event) (told_it : ℕ) → Turned meaning q worker e told_it next → sound.IsSound meaning q →
+      (more : List Entry) × (next.progress.settled ≡ q.progress.settled ++ more)
   settled_turned q next worker e told_it t Kq =
       let g = sound.grows meaning l q t.before t.part t.behind e t.reads (makes meaning q next worker e told_it t) Kq in
       (g.0, ap (λ x. x.settled) t.progress ∙ g.1)
 
-  pub settled_led : (q : Run S Op) → Leads meaning r q → (more : List Entry) × (q.progress.settled ≡ r.progress.settled ++ more)
+  pub settled_led : (q : Run Op) → Leads meaning r q → (more : List Entry) × (q.progress.settled ≡ r.progress.settled ++ more)
   settled_led q here = ([], sym (append-nil r.progress.settled))
   settled_led q (turn {q = x} {worker = worker} {e = e} {told = told_it} h t) =
       let old = settled_led x h in
       let new = settled_turned x q worker e told_it t (sound_led meaning l r x h K) in
       (old.0 ++ new.0, new.1 ∙ ap (λ xs. xs ++ new.0) old.1 ∙ append_assoc r.progress.settled old.0 new.0)
 
-  grown_led : (q : Run S Op) → Leads meaning r q → length r.progress.settled ≤ length q.progress.settled
+  grown_led : (q : Run Op) → Leads meaning r q → length r.progress.settled ≤ length q.progress.settled
   grown_led q h = let g = settled_led q h in let e = ap length g.1 in let f = length-append r.progress.settled g.0 in omega (arith, e, f)
 
-  pub past_led : (w n : ℕ) (q : Run S Op) → Leads meaning r q → IsPast r w n r → IsPast r w n q
+  pub past_led : (w n : ℕ) (q : Run Op) → Leads meaning r q → IsPast r w n r → IsPast r w n q
   past_led w n q here h = h
   past_led w n q (turn {q = x} {worker = worker} {e = e} {told = told_it} led t) h =
       subst (IsPast r w n) (sym (turned_is meaning x q worker e told_it t))
-      (past_after meaning l r w n x t.before t.part t.behind e t.reads (makes meaning x q worker e told_it t) (sound_led meaning l r x led K) (told_led meaning l r x led K T) (past_led w n x led h))
+      (past_after meaning l r w n x t.before t.part t.behind e t.reads (makes meaning x q worker e told_it t) (sound_led meaning l r x led K)
+      (told_led meaning l r x led K T) (past_led w n x led h))
 
-  pub behind_led : (w n : ℕ) (q : Run S Op) → Leads meaning r q → IsBehind r w n r → IsBehind r w n q
+  pub behind_led : (w n : ℕ) (q : Run Op) → Leads meaning r q → IsBehind r w n r → IsBehind r w n q
   behind_led w n q here h = h
   behind_led w n q (turn {q = x} {worker = worker} {e = e} {told = told_it} led t) h =
       subst (IsBehind r w n) (sym (turned_is meaning x q worker e told_it t))
-      (behind_after meaning l r w n x t.before t.part t.behind e t.reads (makes meaning x q worker e told_it t) (sound_led meaning l r x led K) (told_led meaning l r x led K T) (grown_led x led) (behind_led w n x led h))
+      (behind_after meaning l r w n x t.before t.part t.behind e t.reads (makes meaning x q worker e told_it t) (sound_led meaning l r x led K)
+      (told_led meaning l r x led K T) (grown_led x led) (behind_led w n x led h))

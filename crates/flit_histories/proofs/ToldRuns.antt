@@ -7,7 +7,7 @@ use Rattle.flit_model.specs.declared.calls.Item.{Item}
 use Rattle.flit_model.specs.declared.calls.Item.TheVariants.{Call as Call_item, Evict as Evict_item}
 use Rattle.flit_model.specs.declared.calls.Outcome.TheVariants.{Stopped}
 use Rattle.flit_model.specs.declared.calls.Work.{Work}
-use Rattle.flit_recover.specs.declared.found.Recovered.{Recovered}
+use Rattle.flit_model.specs.declared.found.Recovered.{Recovered}
 use Rattle.flit_structure.specs.Meanings.{Meaning}
 use Rattle.flit_structure.specs.Lawful.{Lawful}
 use Rattle.flit_sched.specs.Runs.{Run}
@@ -21,7 +21,8 @@ use Rattle.flit_histories.proofs.FirstRuns.{opened_sound}
 use Rattle.flit_histories.proofs.ReachedRuns.{sound_led}
 use Rattle.flit_histories.proofs.ToldCalls.{IsTold, IsToldPart, HasCall, told_after}
 
-first_waits : (items : List Item) (k : ℕ) (call : Call) → slice_get items k ≡ Some (Call_item call) → slice_get (map first_outcome items) k ≡ Some (Some Stopped)
+first_waits : (items : List Item) (k : ℕ) (call : Call) → slice_get items k ≡ Some (Call_item call) →
+    slice_get (map first_outcome items) k ≡ Some (Some Stopped)
 first_waits [] k call is = absurd (none-some (Call_item call) is)
 first_waits (i ∷ items) zero call is = let same : i ≡ Call_item call = cc in ap (λ j. Some (first_outcome j)) same
 first_waits (i ∷ items) (suc k) call is = first_waits items k call is
@@ -34,23 +35,29 @@ first_swept (i ∷ items) (suc k) word is = first_swept items k word is
 first_told : (Op : Type 0) (g : Progress) (name : ℕ) (works : List Work) → AllFrom (IsToldPart {Op = Op} g []) name (first_parts {Op = Op} name works)
 first_told Op g name [] = tt
 first_told Op g name (w ∷ ws) = (
-  record { done = λ k call less is. absurd (omega (arith, less)); waits = λ k call le is. first_waits w.items.items k call is; swept = first_swept w.items.items; low = tt },
+  record {
+    done = λ k call less is. absurd (omega (arith, less));
+    waits = λ k call le is. first_waits w.items.items k call is;
+    swept =
+        first_swept w.items.items;
+    low = tt;
+  },
   first_told Op g (name + 1) ws,
 )
 
-module _ {S Op : Type 0} (meaning : Meaning S Op) (l : Lawful meaning) where
-  opened_told : (s : S) (start : Recovered) (works : List Work) → IsTold (opened_run meaning s start works)
-  opened_told s start works = record {
+module _ {Op : Type 0} (meaning : Meaning Op) (l : Lawful meaning) where
+  opened_told : (start : Recovered) (works : List Work) → IsTold (opened_run meaning start works)
+  opened_told start works = record {
     made_by = nothing_is_made (λ e. HasFrom (HasCall e) 1 (first_parts {Op = Op} 1 works));
     read_by = tt;
-    each = first_told Op (opened_run meaning s start works).progress 1 works;
+    each = first_told Op (opened_run meaning start works).progress 1 works;
   }
 
-  pub told_led : (r next : Run S Op) → Leads meaning r next → IsSound meaning r → IsTold r → IsTold next
+  pub told_led : (r next : Run Op) → Leads meaning r next → IsSound meaning r → IsTold r → IsTold next
   told_led r next here K T = T
   told_led r next (turn {q = q} {worker = worker} {e = e} {told = told} h t) K T =
       subst IsTold (sym (turned_is meaning q next worker e told t))
       (told_after meaning l q t.before t.part t.behind e t.reads (makes meaning q next worker e told t) (sound_led meaning l r q h K) (told_led r q h K T))
 
-  pub told_all : (r : Run S Op) → IsReached meaning r → IsTold r
-  told_all r h = told_led (opened_run meaning h.structure h.start h.works) r h.leads (opened_sound meaning l h.structure h.start h.works h.starts) (opened_told h.structure h.start h.works)
+  pub told_all : (r : Run Op) → IsReached meaning r → IsTold r
+  told_all r h = told_led (opened_run meaning h.start h.works) r h.leads (opened_sound meaning l h.start h.works h.starts) (opened_told h.start h.works)

@@ -30,18 +30,19 @@ is_of name number e = (e.worker == name) && (e.number == number)
 -- what a history has of a call that has its reply: an update or a completed read has one entry, a call that was refused
 -- has none
 abbrev pub entries_of : ℕ → ℕ → Call → Reply → List Entry
-entries_of name number call reply = if is_update_by call reply || is_read_by call reply then record { worker = name; number = number; call = call; reply = reply } ∷ [] else []
+entries_of name number call reply = if is_update_by call reply || is_read_by call reply then
+    record { worker = name; number = number; call = call; reply = reply } ∷ [] else []
 
-module _ {S Op : Type 0} where
+module _ {Op : Type 0} where
   -- the worker of this number in the run has this call at this place among its items
-  pub record IsCallIn (r : Run S Op) (worker : ℕ) (p : Part Op) (k : ℕ) (call : Call) (number : ℕ) : Type 0 where
+  pub record IsCallIn (r : Run Op) (worker : ℕ) (p : Part Op) (k : ℕ) (call : Call) (number : ℕ) : Type 0 where
     pub before : List (Part Op)
     pub behind : List (Part Op)
     pub is : IsPart r worker before p behind
     pub call_at : IsCallAt p.items k call number
 
   -- an entry is of a call among the items of the worker that it names
-  pub record IsOfCall (r : Run S Op) (e : Entry) : Type 0 where
+  pub record IsOfCall (r : Run Op) (e : Entry) : Type 0 where
     pub part : Part Op
     pub item : ℕ
     pub is : IsCallIn r e.worker part item e.call e.number

@@ -1,3 +1,4 @@
 pub mod Reached
 pub mod Calls
 pub mod Orders
+pub mod Laws

@@ -6,9 +6,9 @@ use Rattle.flit_model.specs.declared.calls.Placed.{Placed}
 use Rattle.flit_sched.specs.Runs.{Part, Run, IsPart}
 use Rattle.flit_histories.specs.Calls.{IsCallIn}
 
-module _ {S Op : Type 0} where
+module _ {Op : Type 0} where
   -- the call of this name and number is over
-  pub record IsOver (r : Run S Op) (name number : ℕ) : Type 0 where
+  pub record IsOver (r : Run Op) (name number : ℕ) : Type 0 where
     pub part : Part Op
     pub item : ℕ
     pub call : Call
@@ -16,7 +16,7 @@ module _ {S Op : Type 0} where
     pub over : item < part.over
 
   -- the worker of this name has not yet begun so many calls
-  pub record IsYetToBegin (r : Run S Op) (name number : ℕ) : Type 0 where
+  pub record IsYetToBegin (r : Run Op) (name number : ℕ) : Type 0 where
     pub before : List (Part Op)
     pub part : Part Op
     pub behind : List (Part Op)

@@ -16,6 +16,7 @@ use Rattle.flit_model.specs.declared.calls.Call.{Call}
 use Rattle.flit_model.specs.declared.calls.Call.TheVariants.{Insert, Remove, Contains, Get}
 use Rattle.flit_model.specs.declared.calls.Reply.TheVariants.{Yes, No}
 use Rattle.flit_structure.specs.Meanings.{key_of}
+use Rattle.flit_sched.proofs.SplitLists.{any_default}
 use Rattle.flit_sched.specs.Books.{value_after, reply_at, yes_if_some, yes_if_none}
 
 tied : (q w : ℕ) → q ≡ w → eq_by_cmp nat_cmp q w ≡ true
@@ -77,7 +78,8 @@ value_there m (Contains k) q e = refl
 value_there m (Get k) q e = refl
 
 -- what the book has at a place
-pub book_at : (m : Map) (keys : List ℕ) (values : List (Option ℕ)) (i : ℕ) → map (λ k. fin.get m k) keys ≡ values → i < length keys → (d : Option ℕ) → get_or values i d ≡ fin.get m (get_or keys i 0)
+pub book_at : (m : Map) (keys : List ℕ) (values : List (Option ℕ)) (i : ℕ) → map (λ k. fin.get m k) keys ≡ values → i < length keys → (d : Option ℕ) →
+    get_or values i d ≡ fin.get m (get_or keys i 0)
 book_at m [] values i e h d = absurd (omega arith)
 book_at m (k ∷ keys) values zero e h d = ap (λ vs. get_or vs 0 d) (sym e)
 book_at m (k ∷ keys) values (suc i) e h d = ap (λ vs. get_or vs (suc i) d) (sym e) ∙ book_at m keys (map (λ x. fin.get m x) keys) i refl (omega arith) d
@@ -90,18 +92,14 @@ book_put m n [] i v h here there = absurd (omega arith)
 book_put m n (k ∷ keys) zero v h here there =
     ap (λ x. x ∷ map (λ k. fin.get n k) keys) here ∙ ap (λ xs. v ∷ xs) (others keys (λ j l. there (suc j) (omega arith) (omega arith)))
   where
-    others : (ks : List ℕ) → ((j : ℕ) → j < length ks → fin.get n (get_or ks j 0) ≡ fin.get m (get_or ks j 0)) → map (λ k. fin.get n k) ks ≡ map (λ k. fin.get m k) ks
+    others : (ks : List ℕ) → ((j : ℕ) → j < length ks → fin.get n (get_or ks j 0) ≡ fin.get m (get_or ks j 0)) →
+        map (λ k. fin.get n k) ks ≡ map (λ k. fin.get m k) ks
     others [] same = refl
     others (x ∷ ks) same =
         ap (λ y. y ∷ map (λ k. fin.get n k) ks) (same 0 (omega arith)) ∙ ap (λ ys. fin.get m x ∷ ys) (others ks (λ j l. same (suc j) (omega arith)))
 book_put m n (k ∷ keys) (suc i) v h here there =
     ap (λ x. x ∷ map (λ k. fin.get n k) keys) (there 0 (omega arith) (omega arith))
     ∙ ap (λ xs. fin.get m k ∷ xs) (book_put m n keys i v (omega arith) here (λ j l ne. there (suc j) (omega arith) (λ e. ne (omega arith))))
-
-pub any_default : {X : Type 0} (xs : List X) (k : ℕ) (d e : X) → k < length xs → get_or xs k d ≡ get_or xs k e
-any_default [] k d e h = absurd (omega arith)
-any_default (x ∷ xs) zero d e h = refl
-any_default (x ∷ xs) (suc k) d e h = any_default xs k d e (omega arith)
 
 pub rises : (xs : List ℕ) → IsStrictlyIncreasing xs → (i j : ℕ) → i ≤ j → j < length xs → get_or xs i 0 ≤ get_or xs j 0
 rises xs up i j h l = by_cases (cases_lt i j)
@@ -120,13 +118,15 @@ not_missing xs x i r up has =
     let here : get_or xs has.0 0 ≡ x = any_default xs has.0 0 x has.1 ∙ has.2 in
     by_cases s.1 s.2 here (cases_lt has.0 i)
   where
-    by_cases : ((k : ℕ) → k < i → get_or xs k 0 < x) → ((k : ℕ) → i ≤ k → k < length xs → x < get_or xs k 0) → get_or xs has.0 0 ≡ x → (has.0 < i) ⊎ (i ≤ has.0) → ⊥
+    by_cases : ((k : ℕ) → k < i → get_or xs k 0 < x) → ((k : ℕ) → i ≤ k → k < length xs → x < get_or xs k 0) → get_or xs has.0 0 ≡ x → (has.0 < i)
+        ⊎ (i ≤ has.0) → ⊥
     by_cases low high here (inl less) = let p = low has.0 less in omega arith
     by_cases low high here (inr le) = let p = high has.0 le has.1 in omega arith
 
 -- the book after a call
 pub changed : (m : Map) (call : Call) (keys : List ℕ) (values : List (Option ℕ)) (i : ℕ) (v d : Option ℕ) →
-    map (λ k. fin.get m k) keys ≡ values → i < length keys → get_or keys i 0 ≡ key_of call → IsStrictlyIncreasing keys → v ≡ value_after call (get_or values i d) →
+    map (λ k. fin.get m k) keys ≡ values → i < length keys → get_or keys i 0 ≡ key_of call → IsStrictlyIncreasing keys →
+    v ≡ value_after call (get_or values i d) →
     map (λ k. fin.get (map_after m call) k) keys ≡ set values i v
 changed m call keys values i v d e h here up is =
     book_put m (map_after m call) keys i v h
@@ -139,7 +139,8 @@ changed m call keys values i v d e h here up is =
       where
         by_cases : (j < i) ⊎ (i ≤ j) → ⊥
         by_cases (inl less) = let p : get_or keys j 0 < get_or keys i 0 = AllPairs-from_increasing keys up j i 0 less h in omega arith
-        by_cases (inr le) = let less : i < j = omega arith in let p : get_or keys i 0 < get_or keys j 0 = AllPairs-from_increasing keys up i j 0 less l in omega arith
+        by_cases (inr le) = let less : i < j = omega arith in let p : get_or keys i 0 < get_or keys j 0 = AllPairs-from_increasing keys up i j 0 less l in
+            omega arith
 
 -- what the map of some keys and values has at a key
 pub found_value : (keys values : List ℕ) (i : ℕ) → length values ≡ length keys → i < length keys → IsStrictlyIncreasing keys → (d : ℕ) →
@@ -152,7 +153,8 @@ found_value keys values i same h up d = walk keys values i same h (λ j l. AllPa
     walk (k ∷ ks) [] n l h low = absurd (omega arith)
     walk (k ∷ ks) (v ∷ vs) zero l h low = ap (λ b. cond b (Some v) (find nat_cmp k (zip ks vs))) (tied k k refl)
     walk (k ∷ ks) (v ∷ vs) (suc n) l h low =
-        ap (λ b. cond b (Some v) (find nat_cmp (get_or ks n 0) (zip ks vs))) (not_tied (get_or ks n 0) k (λ e. not_self (get_or ks n 0) k e (low 0 (omega arith))))
+        ap (λ b. cond b (Some v) (find nat_cmp (get_or ks n 0) (zip ks vs)))
+        (not_tied (get_or ks n 0) k (λ e. not_self (get_or ks n 0) k e (low 0 (omega arith))))
         ∙ walk ks vs n (omega arith) (omega arith) (λ j less. low (suc j) (omega arith))
       where
         not_self : (a b : ℕ) → a ≡ b → b < a → ⊥
@@ -162,4 +164,5 @@ pub missing_value : (keys values : List ℕ) (q : ℕ) → ((j : ℕ) → j < le
 missing_value [] values q h = refl
 missing_value (k ∷ keys) [] q h = refl
 missing_value (k ∷ keys) (v ∷ values) q h =
-    ap (λ b. cond b (Some v) (find nat_cmp q (zip keys values))) (not_tied q k (λ e. h 0 (omega arith) (sym e))) ∙ missing_value keys values q (λ j l. h (suc j) (omega arith))
+    ap (λ b. cond b (Some v) (find nat_cmp q (zip keys values))) (not_tied q k (λ e. h 0 (omega arith) (sym e)))
+    ∙ missing_value keys values q (λ j l. h (suc j) (omega arith))

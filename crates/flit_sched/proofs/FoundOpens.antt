@@ -14,8 +14,8 @@ use Rattle.flit_model.specs.Lists.{IsRisingFrom}
 use Rattle.flit_model.specs.Images.{Recovers, free_rows}
 use Rattle.flit_model.proofs.Rising.{rising-lower}
 use Rattle.flit_model.proofs.Shapes.{free_rows_rise}
-use Rattle.flit_recover.specs.declared.found.Recovered.{Recovered}
-use Rattle.flit_recover.specs.Damages.{IsRecovery}
+use Rattle.flit_model.specs.declared.found.Recovered.{Recovered}
+use Rattle.flit_model.specs.Recovery.{IsRecovery}
 use Rattle.flit_structure.specs.Lawful.{IsOpening}
 use Rattle.flit_sched.specs.Openings.{content_of, opening_at, IsBookOf}
 
@@ -52,12 +52,20 @@ second false b h = absurd h
 
 all_below : (x : ℕ) (es : List (ℕ × ℕ)) → T (below_all nat_cmp x es) → AllByRecursion (λ y. nat_cmp x y ≡ Less) (map (λ e. e.0) es)
 all_below x [] h = tt
-all_below x (e ∷ es) h = (is_less (nat_cmp x e.0) (first (is_lt (nat_cmp x e.0)) (below_all nat_cmp x es) h), all_below x es (second (is_lt (nat_cmp x e.0)) (below_all nat_cmp x es) h))
+all_below x (e ∷ es) h = (
+  is_less (nat_cmp x e.0) (first (is_lt (nat_cmp x e.0)) (below_all nat_cmp x es) h),
+  all_below x es
+      (second (is_lt (nat_cmp x e.0)) (below_all nat_cmp x es) h),
+)
 
 keys_sorted : (es : List (ℕ × ℕ)) → T (fin.is_sorted nat_cmp es) → IsStrictlySortedBy nat_cmp (map (λ e. e.0) es)
 unfolding IsStrictlySortedBy
 keys_sorted [] h = tt
-keys_sorted (e ∷ es) h = (all_below e.0 es (first (below_all nat_cmp e.0 es) (fin.is_sorted nat_cmp es) h), keys_sorted es (second (below_all nat_cmp e.0 es) (fin.is_sorted nat_cmp es) h))
+keys_sorted (e ∷ es) h = (
+  all_below e.0 es (first (below_all nat_cmp e.0 es) (fin.is_sorted nat_cmp es) h),
+  keys_sorted es
+      (second (below_all nat_cmp e.0 es) (fin.is_sorted nat_cmp es) h),
+)
 
 keys_rise : (m : Map) → IsStrictlyIncreasing (fin.keys m)
 keys_rise m = IsStrictlyIncreasing-from_sorted (fin.keys m) (keys_sorted (fin.entries m) (fin.entries_sorted m))
@@ -69,7 +77,8 @@ module _ (l : Layout) (r : Recovered) (h : IsRecovery l r.image.words.items r.ke
   content_is = ap (λ ks. content_of ks r.values.items) h.keys_are ∙ ap (λ vs. content_of (fin.keys h.map) vs) h.values_are ∙ map_of_parts h.map
 
   free_rise : IsRisingFrom 0 r.free.items
-  free_rise = subst (IsRisingFrom 0) (sym h.recovers.free_rows) (rising-lower (first_row_of l.kind) 0 (free_rows l h.recovers.shape) (omega arith) (free_rows_rise l h.recovers.shape))
+  free_rise = subst (IsRisingFrom 0) (sym h.recovers.free_rows) (rising-lower (first_row_of l.kind) 0 (free_rows l h.recovers.shape) (omega arith)
+      (free_rows_rise l h.recovers.shape))
 
   pub found_opens : IsOpening l (opening_at r)
   found_opens = record {

@@ -14,6 +14,7 @@ use Rattle.flit_model.proofs.Legal.{map_after_all-append}
 use Rattle.flit_structure.specs.Meanings.{Meaning, key_of}
 use Rattle.flit_structure.specs.declared.workers.Doing.{Doing}
 use Rattle.flit_structure.specs.declared.workers.Doing.TheVariants.{Idle, Busy, Evicting}
+use Rattle.flit_structure.specs.declared.workers.Worker.{Worker}
 use Rattle.flit_sched.specs.declared.players.Player.{Player}
 use Rattle.flit_sched.specs.declared.players.Waiting.{Waiting}
 use Rattle.flit_sched.specs.Kept.{AllRaw, IsRawEvent, IsBook, IsKeptPlayer, IsAtItem, pairs_waiting, items_of, over_of}
@@ -22,19 +23,24 @@ use Rattle.flit_sched.proofs.PlayerLaws.{IsAlike, AreAlike, Lasts}
 use Rattle.flit_sched.proofs.KeptLaws.{take_front}
 
 -- settled updates only grow
-pub settles_grows : {Op : Type 0} (keys : List ℕ) (r : Option ℕ) (players : List (Player Op)) (settled : List Entry) (values : List (Option ℕ)) (later : List (Player Op)) (grown : List Entry) (changed : List (Option ℕ)) →
+pub settles_grows : {W : Type 0} (keys : List ℕ) (r : Option ℕ) (players : List (Player W)) (settled : List Entry) (values : List (Option ℕ))
+    (later : List (Player W)) (grown : List Entry) (changed : List (Option ℕ)) →
     Settles keys r players settled values later grown changed → (more : List Entry) × (grown ≡ settled ++ more)
 settles_grows keys r players settled values later grown changed (nothing_raised e h) = ([], h.settled_same ∙ sym (append-nil settled))
 settles_grows keys r players settled values later grown changed (nothing_waits word e none h) = ([], h.settled_same ∙ sym (append-nil settled))
 settles_grows keys r players settled values later grown changed (one_settles word e h) = (h.entry ∷ [], h.grows)
 
 -- the book is kept up
-pub settles_book : {Op : Type 0} (content : Map) (keys : List ℕ) (r : Option ℕ) (players : List (Player Op)) (settled : List Entry) (values : List (Option ℕ)) (later : List (Player Op)) (grown : List Entry) (changed : List (Option ℕ)) →
-    Settles keys r players settled values later grown changed → IsBook keys values (map_after_all content settled) → IsBook keys changed (map_after_all content grown)
+pub settles_book : {W : Type 0} (content : Map) (keys : List ℕ) (r : Option ℕ) (players : List (Player W)) (settled : List Entry) (values : List (Option ℕ))
+    (later : List (Player W)) (grown : List Entry) (changed : List (Option ℕ)) →
+    Settles keys r players settled values later grown changed → IsBook keys values (map_after_all content settled) →
+    IsBook keys changed (map_after_all content grown)
 settles_book content keys r players settled values later grown changed (nothing_raised e h) b =
-    subst (λ vs. IsBook keys vs (map_after_all content grown)) (sym h.values_same) (subst (λ es. IsBook keys values (map_after_all content es)) (sym h.settled_same) b)
+    subst (λ vs. IsBook keys vs (map_after_all content grown)) (sym h.values_same)
+    (subst (λ es. IsBook keys values (map_after_all content es)) (sym h.settled_same) b)
 settles_book content keys r players settled values later grown changed (nothing_waits word e none h) b =
-    subst (λ vs. IsBook keys vs (map_after_all content grown)) (sym h.values_same) (subst (λ es. IsBook keys values (map_after_all content es)) (sym h.settled_same) b)
+    subst (λ vs. IsBook keys vs (map_after_all content grown)) (sym h.values_same)
+    (subst (λ es. IsBook keys values (map_after_all content es)) (sym h.settled_same) b)
 settles_book content keys r players settled values later grown changed (one_settles word e h) b =
     let new = h.changes (map_after_all content settled) b.is in
     subst (λ M. IsBook keys changed M) (sym (map_after_all-append content settled (h.entry ∷ [])) ∙ ap (λ es. map_after_all content es) (sym h.grows))
@@ -70,42 +76,49 @@ raw_after m (Store word to) r h k = (all_set m.words word to h r, k)
 raw_after m Draw r h k = (h, k)
 
 module _ {Op : Type 0} where
-  pub alike_items : (ps qs : List (Player Op)) → AreAlike ps qs → items_of qs ≡ items_of ps
+  pub alike_items : (ps qs : List (Player (Worker Op))) → AreAlike ps qs → items_of qs ≡ items_of ps
   alike_items [] [] h = refl
   alike_items [] (q ∷ qs) h = absurd h
   alike_items (p ∷ ps) [] h = absurd h
   alike_items (p ∷ ps) (q ∷ qs) h = let r = alike_items ps qs h.1 in let e = ap (λ x. length x.work.items.items) h.0.same in omega (arith, r, e)
 
-  pub alike_over : (ps qs : List (Player Op)) → AreAlike ps qs → over_of qs ≡ over_of ps
+  pub alike_over : (ps qs : List (Player (Worker Op))) → AreAlike ps qs → over_of qs ≡ over_of ps
   alike_over [] [] h = refl
   alike_over [] (q ∷ qs) h = absurd h
   alike_over (p ∷ ps) [] h = absurd h
   alike_over (p ∷ ps) (q ∷ qs) h = let r = alike_over ps qs h.1 in let e = ap (λ x. x.over) h.0.same in omega (arith, r, e)
 
-  pub items_joined : (a b : List (Player Op)) (p : Player Op) → items_of (a ++ p ∷ b) ≡ items_of a + (length p.work.items.items + items_of b)
+  pub items_joined : (a b : List (Player (Worker Op))) (p : Player (Worker Op)) → items_of (a ++ p ∷ b) ≡ items_of a + (length p.work.items.items + items_of b)
   items_joined [] b p = omega arith
   items_joined (q ∷ a) b p = let r = items_joined a b p in omega (arith, r)
 
-  pub over_joined : (a b : List (Player Op)) (p : Player Op) → over_of (a ++ p ∷ b) ≡ over_of a + (p.over + over_of b)
+  pub over_joined : (a b : List (Player (Worker Op))) (p : Player (Worker Op)) → over_of (a ++ p ∷ b) ≡ over_of a + (p.over + over_of b)
   over_joined [] b p = omega arith
   over_joined (q ∷ a) b p = let r = over_joined a b p in omega (arith, r)
 
-module _ {S Op : Type 0} (meaning : Meaning S Op) (s : S) where
-  at_lasts : (content : Map) (settled more : List Entry) (item : Option Item) (noted : Option ℕ) (doing : Doing Op) → IsAtItem meaning s content settled item noted doing → IsAtItem meaning s content (settled ++ more) item noted doing
+module _ {Op : Type 0} (meaning : Meaning Op) where
+  at_lasts : (content : Map) (settled more : List Entry) (item : Option Item) (noted : Option ℕ) (doing : Doing Op) →
+      IsAtItem meaning content settled item noted doing → IsAtItem meaning content (settled ++ more) item noted doing
   at_lasts content settled more item noted (Idle hand) h = tt
   at_lasts content settled more item noted (Busy op call None) h = absurd h
-  at_lasts content settled more item noted (Busy op call (Some n)) h =
-      (h.0, h.1, (let q = h.2 in omega (arith, q, length-append settled more)), h.3 ∙ ap (λ es. fin.get (map_after_all content es) (key_of call)) (sym (take_front n settled more h.2)))
+  at_lasts content settled more item noted (Busy op call (Some n)) h = (
+    h.0,
+    h.1,
+    (let q = h.2 in omega (arith, q, length-append settled more)),
+    h.3
+        ∙ ap (λ es. fin.get (map_after_all content es) (key_of call)) (sym (take_front n settled more h.2)),
+  )
   at_lasts content settled more item noted (Evicting evict) h = h
 
   waits_lasts : (P : ℕ × Entry → Type 0) (v w : Option Waiting) → (w ≡ v) ⊎ (w ≡ None) → AllByRecursion P (pairs_waiting v) → AllByRecursion P (pairs_waiting w)
   waits_lasts P v w (inl e) h = subst (λ o. AllByRecursion P (pairs_waiting o)) (sym e) h
   waits_lasts P v w (inr e) h = subst (λ o. AllByRecursion P (pairs_waiting o)) (sym e) tt
 
-  pub player_lasts : (content : Map) (settled more : List Entry) (keys : List ℕ) → Lasts meaning s content settled (settled ++ more) keys
+  pub player_lasts : (content : Map) (settled more : List Entry) (keys : List ℕ) → Lasts meaning content settled (settled ++ more) keys
   player_lasts content settled more keys = record { lasts = lasts }
     where
-      same_but : (name : ℕ) (p : Player Op) (w : Option Waiting) → (w ≡ p.waiting) ⊎ (w ≡ None) → IsKeptPlayer meaning s content settled keys name p → IsKeptPlayer meaning s content (settled ++ more) keys name (record p { waiting = w })
+      same_but : (name : ℕ) (p : Player (Worker Op)) (w : Option Waiting) → (w ≡ p.waiting) ⊎ (w ≡ None) → IsKeptPlayer meaning content settled keys name p →
+          IsKeptPlayer meaning content (settled ++ more) keys name (record p { waiting = w })
       same_but name p w e k = record {
         named = k.named;
         items = k.items;
@@ -118,5 +131,6 @@ module _ {S Op : Type 0} (meaning : Meaning S Op) (s : S) where
         at = at_lasts content settled more _ p.noted p.worker.doing k.at;
       }
 
-      lasts : (name : ℕ) (p q : Player Op) → IsAlike p q → IsKeptPlayer meaning s content settled keys name p → IsKeptPlayer meaning s content (settled ++ more) keys name q
-      lasts name p q h k = subst (λ x. IsKeptPlayer meaning s content (settled ++ more) keys name x) (sym h.same) (same_but name p q.waiting h.waits k)
+      lasts : (name : ℕ) (p q : Player (Worker Op)) → IsAlike p q → IsKeptPlayer meaning content settled keys name p →
+          IsKeptPlayer meaning content (settled ++ more) keys name q
+      lasts name p q h k = subst (λ x. IsKeptPlayer meaning content (settled ++ more) keys name x) (sym h.same) (same_but name p q.waiting h.waits k)

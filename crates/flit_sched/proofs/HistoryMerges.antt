@@ -14,7 +14,12 @@ all_from [] = tt
 all_from (r ∷ rs) = (omega arith, all_from rs)
 
 pub left_start : (reads sorted : List Placed) → sorted ≡ placed_in_order reads → IsLeft 0 sorted (drop 0 sorted)
-left_start reads sorted e = subst (λ rs. IsLeft 0 rs rs) (sym e) (record { up = up_sorted placed_before placed_order reads; from = all_from (placed_in_order reads); same = λ m l. refl })
+left_start reads sorted e = subst (λ rs. IsLeft 0 rs rs) (sym e) (record {
+  up = up_sorted placed_before placed_order reads;
+  from =
+      all_from (placed_in_order reads);
+  same = λ m l. refl;
+})
 
 module _ (n : ℕ) (ys rest : List Placed) (left : IsLeft n ys rest) where
   pub left_front : front_at n rest ≡ those_at n ys
@@ -31,7 +36,8 @@ module _ (settled : List Entry) (reads sorted rest : List Placed) (i : ℕ) (is 
   front_is : front_at i rest ≡ reads_at i reads
   front_is = left_front i sorted rest left ∙ ap (those_at i) is ∙ sorted_at i reads
 
-  pub merge_more : (now mid later whole : List Entry) (next : ℕ) (d : Entry) → i < length settled → next ≡ i + 1 → mid ≡ now ++ front_at i rest → later ≡ mid ++ slice_index_or settled i d ∷ []
+  pub merge_more : (now mid later whole : List Entry) (next : ℕ) (d : Entry) → i < length settled → next ≡ i + 1 → mid ≡ now ++ front_at i rest →
+      later ≡ mid ++ slice_index_or settled i d ∷ []
       → now ++ history_from i (drop i settled) reads ≡ whole → later ++ history_from next (drop next settled) reads ≡ whole
   merge_more now mid later whole next d below above e f so_far =
       let u = slice_index_or settled i d in
@@ -45,6 +51,7 @@ module _ (settled : List Entry) (reads sorted rest : List Placed) (i : ℕ) (is 
       ∙ sym (ap (λ us. now ++ history_from i us reads) tail)
       ∙ so_far
 
-  pub merge_end : (now later whole : List Entry) → length settled ≤ i → later ≡ now ++ front_at i rest → now ++ history_from i (drop i settled) reads ≡ whole → later ≡ whole
+  pub merge_end : (now later whole : List Entry) → length settled ≤ i → later ≡ now ++ front_at i rest → now ++ history_from i (drop i settled) reads ≡ whole →
+      later ≡ whole
   merge_end now later whole past e so_far =
       e ∙ ap (λ es. now ++ es) front_is ∙ sym (ap (λ us. now ++ history_from i us reads) (drop_of_length-le settled past)) ∙ so_far

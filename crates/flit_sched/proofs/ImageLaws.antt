@@ -6,7 +6,7 @@ use Rattle.std.specs.List.{list_any, range_with_len}
 use Rattle.flit_model.specs.States.{State}
 use Rattle.flit_model.specs.CrashImages.{crash_word}
 use Rattle.flit_sched.proofs.SplitLists.{take_one}
-use Rattle.flit_sched.proofs.BookLaws.{any_default}
+use Rattle.flit_sched.proofs.SplitLists.{any_default}
 
 same_mapped : (f g : ℕ → ℕ) (first n : ℕ) → ((j : ℕ) → first ≤ j → j < first + n → g j ≡ f j) → map f (range_with_len first n) ≡ map g (range_with_len first n)
 same_mapped f g first zero h = refl
@@ -14,7 +14,8 @@ same_mapped f g first (suc n) h =
     ap (λ x. x ∷ map f (range_with_len (first + 1) n)) (sym (h first (omega arith) (omega arith)))
     ∙ ap (λ xs. g first ∷ xs) (same_mapped f g (first + 1) n (λ j l k. h j (omega arith) (omega arith)))
 
-set_mapped : (f g : ℕ → ℕ) (first n w : ℕ) → w < n → ((j : ℕ) → j ≢ first + w → g j ≡ f j) → set (map f (range_with_len first n)) w (g (first + w)) ≡ map g (range_with_len first n)
+set_mapped : (f g : ℕ → ℕ) (first n w : ℕ) → w < n → ((j : ℕ) → j ≢ first + w → g j ≡ f j) →
+    set (map f (range_with_len first n)) w (g (first + w)) ≡ map g (range_with_len first n)
 set_mapped f g first zero w l h = absurd (omega arith)
 set_mapped f g first (suc n) zero l h =
     let e : first + 0 ≡ first = omega arith in
@@ -26,7 +27,8 @@ set_mapped f g first (suc n) zero l h =
 set_mapped f g first (suc n) (suc w) l h =
     let e : first + suc w ≡ first + 1 + w = omega arith in
     ap (λ x. x ∷ set (map f (range_with_len (first + 1) n)) w (g (first + suc w))) (sym (h first (λ q. omega (arith, q))))
-    ∙ ap (λ xs. g first ∷ xs) (ap (λ k. set (map f (range_with_len (first + 1) n)) w (g k)) e ∙ set_mapped f g (first + 1) n w (omega arith) (λ j ne. h j (λ q. ne (q ∙ e))))
+    ∙ ap (λ xs. g first ∷ xs) (ap (λ k. set (map f (range_with_len (first + 1) n)) w (g k)) e
+    ∙ set_mapped f g (first + 1) n w (omega arith) (λ j ne. h j (λ q. ne (q ∙ e))))
 
 any_more : (q : ℕ) (xs : List ℕ) (x : ℕ) → list_any (λ v. v == q) (xs ++ x ∷ []) ≡ list_any (λ v. v == q) xs || (x == q)
 any_more q [] x = by_test (x == q)
@@ -74,7 +76,8 @@ module _ (m : State) (chosen : List ℕ) (i d : ℕ) (h : i < length chosen) whe
   own : is x ≡ crash_word (λ w. true) m x
   own = ap (λ t. crash_word (λ w. t) m x) (picks_more x ∙ or_true (list_any (λ v. v == x) (take i chosen)) (x == x) (eq-eqb x x refl))
 
-  pub takes_one : (n : ℕ) (image : List ℕ) (v : ℕ) → image ≡ map was (range_with_len 0 n) → x < n → v ≡ crash_word (λ w. true) m x → set image x v ≡ map is (range_with_len 0 n)
+  pub takes_one : (n : ℕ) (image : List ℕ) (v : ℕ) → image ≡ map was (range_with_len 0 n) → x < n → v ≡ crash_word (λ w. true) m x →
+      set image x v ≡ map is (range_with_len 0 n)
   takes_one n image v e l k =
       let z : 0 + x ≡ x = omega arith in
       ap (λ xs. set xs x v) e ∙ ap (λ y. set (map was (range_with_len 0 n)) x y) (k ∙ sym own ∙ ap is (sym z))

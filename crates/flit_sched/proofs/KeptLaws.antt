@@ -13,7 +13,7 @@ use Rattle.flit_pv.specs.declared.evicts.Evict.{Evict}
 use Rattle.flit_pv.specs.Evicts.{evict_asked, evict_taken, evict_started}
 use Rattle.flit_structure.specs.declared.workers.Doing.{Doing}
 use Rattle.flit_structure.specs.declared.workers.Doing.TheVariants.{Idle, Busy, Evicting}
-use Rattle.flit_structure.specs.Meanings.{Meaning, key_of, goes_on}
+use Rattle.flit_structure.specs.Meanings.{Meaning, key_of, goes_on, replied}
 use Rattle.flit_sched.specs.Turns.{enters, rests, hand_over, hand_replied, hand_evicted, over_after}
 use Rattle.flit_sched.specs.Kept.{IsAtItem, one_if_busy}
 use Rattle.flit_sched.proofs.StepLaws.{at}
@@ -39,7 +39,7 @@ pub take_whole : {X : Type 0} (xs ys : List X) → take (length xs) (xs ++ ys) �
 take_whole [] ys = refl
 take_whole (x ∷ xs) ys = ap (λ zs. x ∷ zs) (take_whole xs ys)
 
-module _ {S Op : Type 0} (meaning : Meaning S Op) (s : S) where
+module _ {Op : Type 0} (meaning : Meaning Op) where
   -- what was noted when the call began, or is noted now
   abbrev pub IsNotedFor : Map → List Entry → Option Item → Option ℕ → Option ℕ → Doing Op → Type 0
   IsNotedFor content settled (Some (Call_item call)) was noted (Idle hand) = noted ≡ fin.get (map_after_all content settled) (key_of call)
@@ -50,36 +50,38 @@ module _ {S Op : Type 0} (meaning : Meaning S Op) (s : S) where
 
   busy_on : (content : Map) (settled : List Entry) (item : Option Item) (noted : Option ℕ) (over number : ℕ) (op : Op) (call : Call) (n : ℕ) →
       item ≡ Some (Call_item call) → n ≤ length settled → noted ≡ fin.get (map_after_all content (take n settled)) (key_of call) → number ≤ over + 1 →
-      (o : Option Reply) → meaning.replied s op ≡ o →
-      (IsAtItem meaning s content settled item noted (rests meaning s (Busy op call (Some n)) (hand_replied meaning s op o)))
-      × (number ≤ over_after meaning s over (hand_replied meaning s op o) + one_if_busy (rests meaning s (Busy op call (Some n)) (hand_replied meaning s op o)))
+      (o : Option Reply) → replied meaning op ≡ o →
+      (IsAtItem meaning content settled item noted (rests meaning (Busy op call (Some n)) (hand_replied meaning op o)))
+      × (number ≤ over_after meaning over (hand_replied meaning op o) + one_if_busy (rests meaning (Busy op call (Some n)) (hand_replied meaning op o)))
   busy_on content settled item noted over number op call n is le at_first count None r = ((is, r, le, at_first), count)
   busy_on content settled item noted over number op call n is le at_first count (Some reply) r = (tt, omega arith)
 
   evict_on : (content : Map) (settled : List Entry) (item : Option Item) (noted : Option ℕ) (over number : ℕ) (evict : Evict) (word : ℕ) →
       item ≡ Some (Evict_item word) → number ≤ over → (o : Option Event) → evict_asked evict ≡ o →
-      (IsAtItem meaning s content settled item noted (rests meaning s (Evicting evict) (hand_evicted meaning s evict o)))
-      × (number ≤ over_after meaning s over (hand_evicted meaning s evict o) + one_if_busy (rests meaning s (Evicting evict) (hand_evicted meaning s evict o)))
+      (IsAtItem meaning content settled item noted (rests meaning (Evicting evict) (hand_evicted meaning evict o)))
+      × (number ≤ over_after meaning over (hand_evicted meaning evict o) + one_if_busy (rests meaning (Evicting evict) (hand_evicted meaning evict o)))
   evict_on content settled item noted over number evict word is count None r = (tt, omega arith)
   evict_on content settled item noted over number evict word is count (Some e) r = ((word, is, ap is_some r), omega arith)
 
   pub at_item : (content : Map) (settled more : List Entry) (item : Item) (was noted : Option ℕ) (name number over told : ℕ) (doing : Doing Op) →
-      IsAtItem meaning s content settled (Some item) was doing → IsNotedFor content settled (Some item) was noted doing → number ≤ over + one_if_busy doing →
-      let u = enters meaning s (at name number doing) doing (Some item) in
-      let d = goes_on meaning s (length settled) u.doing told in
-      (IsAtItem meaning s content (settled ++ more) (Some item) noted (rests meaning s d (hand_over meaning s d)))
-      × (u.number ≤ over_after meaning s over (hand_over meaning s d) + one_if_busy (rests meaning s d (hand_over meaning s d)))
+      IsAtItem meaning content settled (Some item) was doing → IsNotedFor content settled (Some item) was noted doing → number ≤ over + one_if_busy doing →
+      let u = enters meaning (at name number doing) doing (Some item) in
+      let d = goes_on meaning (length settled) u.doing told in
+      (IsAtItem meaning content (settled ++ more) (Some item) noted (rests meaning d (hand_over meaning d)))
+      × (u.number ≤ over_after meaning over (hand_over meaning d) + one_if_busy (rests meaning d (hand_over meaning d)))
   at_item content settled more (Call_item call) was noted name number over told (Idle hand) k n count =
-      busy_on content (settled ++ more) (Some (Call_item call)) noted over (number + 1) (meaning.taken s (meaning.begun s hand call) told) call (length settled) refl
+      busy_on content (settled ++ more) (Some (Call_item call)) noted over (number + 1) (meaning.taken (meaning.begun hand call) told) call (length settled)
+      refl
       (simp length-append (omega arith)) (n ∙ ap (λ xs. fin.get (map_after_all content xs) (key_of call)) (sym (take_whole settled more))) (omega arith)
-      (meaning.replied s (meaning.taken s (meaning.begun s hand call) told)) refl
+      (replied meaning (meaning.taken (meaning.begun hand call) told)) refl
   at_item content settled more (Evict_item word) was noted name number over told (Idle hand) k n count =
       evict_on content (settled ++ more) (Some (Evict_item word)) noted over number (evict_taken (evict_started hand word) told) word refl (omega arith)
       (evict_asked (evict_taken (evict_started hand word) told)) refl
   at_item content settled more item was noted name number over told (Busy op call None) k n count = absurd k
   at_item content settled more item was noted name number over told (Busy op call (Some first)) k n count =
-      busy_on content (settled ++ more) (Some item) noted over number (meaning.taken s op told) call first k.0 (simp length-append (let q = k.2 in omega arith))
+      busy_on content (settled ++ more) (Some item) noted over number (meaning.taken op told) call first k.0 (simp length-append (let q = k.2 in omega arith))
       (n ∙ k.3 ∙ ap (λ xs. fin.get (map_after_all content xs) (key_of call)) (sym (take_front first settled more k.2))) count
-      (meaning.replied s (meaning.taken s op told)) refl
+      (replied meaning (meaning.taken op told)) refl
   at_item content settled more item was noted name number over told (Evicting evict) k n count =
-      evict_on content (settled ++ more) (Some item) noted over number (evict_taken evict told) k.0 k.1 (omega arith) (evict_asked (evict_taken evict told)) refl
+      evict_on content (settled ++ more) (Some item) noted over number (evict_taken evict told) k.0 k.1 (omega arith) (evict_asked (evict_taken evict told))
+      refl

@@ -17,10 +17,15 @@ pub mod GrowLaws
 pub mod KindLaws
 pub mod AfterLaws
 pub mod ReadLaws
+pub mod SeatLaws
+pub mod LastLaws
 pub mod TurnSteps
+pub mod TurnFacts
+pub mod SeenLaws
 pub mod PositionLaws
 pub mod OpenLaws
 pub mod ImageLaws
+pub mod HiredLaws
 pub mod OpenKept
 pub mod FitLaws
 pub mod UpdateLaws

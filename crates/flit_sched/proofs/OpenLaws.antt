@@ -1,5 +1,5 @@
 -- The keys, values and players of a run that is opened.
-use Rattle.std.proofs.Common.{◌≡◌, ◌⊎◌, inl, inr, ℕ, suc, ◌+◌, ◌<◌, ◌≤◌, List, [], ◌∷◌, ◌++◌, length, map, take, get_or, refl, sym, ◌∙◌, ap, subst, arith, Option, Some, None, append_assoc, zip, Err, Ok}
+use Rattle.std.proofs.Common.{◌≡◌, ◌⊎◌, inl, inr, ℕ, ◌+◌, ◌<◌, ◌≤◌, List, [], ◌∷◌, ◌++◌, length, map, take, get_or, refl, sym, ◌∙◌, ap, subst, arith, Option, Some, None, append_assoc, zip, Err, Ok}
 use Rattle.std.proofs.lemmas.Bool.{cases_lt}
 use Rattle.std.specs.List.{AllByRecursion, Contains}
 use Rattle.std.specs.List.Sorted.{IsStrictlyIncreasing, IsBinarySearchResult}
@@ -11,20 +11,14 @@ use Rattle.std.specs.Cmp.{nat_cmp_total}
 use Rattle.flit_model.specs.declared.calls.Call.{Call}
 use Rattle.flit_model.specs.declared.calls.Item.{Item}
 use Rattle.flit_model.specs.declared.calls.Item.TheVariants.{Call as Call_item, Evict as Evict_item}
-use Rattle.flit_model.specs.declared.calls.Outcome.{Outcome}
 use Rattle.flit_model.specs.declared.calls.Work.{Work}
-use Rattle.flit_pv.specs.declared.hands.Hand.{Hand}
-use Rattle.flit_pv.specs.Hands.{first_hand}
-use Rattle.flit_structure.specs.declared.workers.Doing.TheVariants.{Idle}
 use Rattle.flit_model.proofs.Membership.{contains_first, contains_later, contains_cases, contains_none}
 use Rattle.flit_structure.specs.Meanings.{key_of}
 use Rattle.flit_structure.proofs.Names.{all_both}
-use Rattle.flit_sched.specs.Kept.{IsKeyed, part_of}
-use Rattle.flit_sched.specs.declared.players.Player.{Player}
-use Rattle.flit_sched.specs.Runs.{Part}
-use Rattle.flit_sched.specs.Openings.{first_outcome, first_part, first_parts, content_of}
-use Rattle.flit_sched.proofs.SplitLists.{take_one}
-use Rattle.flit_sched.proofs.BookLaws.{found_at, found_value, missing_value, any_default, rises}
+use Rattle.flit_sched.specs.Kept.{IsKeyed}
+use Rattle.flit_sched.specs.Openings.{content_of}
+use Rattle.flit_sched.proofs.SplitLists.{take_one, any_default}
+use Rattle.flit_sched.proofs.BookLaws.{found_at, found_value, missing_value, rises}
 
 pub contains_front : (xs ys : List ℕ) (x : ℕ) → Contains xs x → Contains (xs ++ ys) x
 contains_front [] ys x h = absurd (contains_none x h)
@@ -46,17 +40,21 @@ keyed_item : (xs ys : List ℕ) → ((x : ℕ) → Contains xs x → Contains ys
 keyed_item xs ys h (Call_item call) k = h (key_of call) k
 keyed_item xs ys h (Evict_item word) k = tt
 
-pub keyed_items : (xs ys : List ℕ) → ((x : ℕ) → Contains xs x → Contains ys x) → (is : List Item) → AllByRecursion (IsKeyed xs) is → AllByRecursion (IsKeyed ys) is
+pub keyed_items : (xs ys : List ℕ) → ((x : ℕ) → Contains xs x → Contains ys x) → (is : List Item) → AllByRecursion (IsKeyed xs) is →
+    AllByRecursion (IsKeyed ys) is
 keyed_items xs ys h [] k = tt
 keyed_items xs ys h (i ∷ is) k = (keyed_item xs ys h i k.0, keyed_items xs ys h is k.1)
 
-pub keyed_works : (xs ys : List ℕ) → ((x : ℕ) → Contains xs x → Contains ys x) → (ws : List Work) → AllByRecursion (λ w. AllByRecursion (IsKeyed xs) w.items.items) ws → AllByRecursion (λ w. AllByRecursion (IsKeyed ys) w.items.items) ws
+pub keyed_works : (xs ys : List ℕ) → ((x : ℕ) → Contains xs x → Contains ys x) → (ws : List Work) →
+    AllByRecursion (λ w. AllByRecursion (IsKeyed xs) w.items.items) ws → AllByRecursion (λ w. AllByRecursion (IsKeyed ys) w.items.items) ws
 keyed_works xs ys h [] k = tt
 keyed_works xs ys h (w ∷ ws) k = (keyed_items xs ys h w.items.items k.0, keyed_works xs ys h ws k.1)
 
 -- one more item, whose key was pushed
-pub pushed_call : (old more now : List ℕ) (key : ℕ) (items : List Item) (i : ℕ) (d : Item) (call : Call) → i < length items → get_or items i d ≡ Call_item call → key ≡ key_of call →
-    now ≡ (old ++ more) ++ key ∷ [] → AllByRecursion (IsKeyed more) (take i items) → (x : List ℕ) × (now ≡ old ++ x) × AllByRecursion (IsKeyed x) (take (i + 1) items)
+pub pushed_call : (old more now : List ℕ) (key : ℕ) (items : List Item) (i : ℕ) (d : Item) (call : Call) → i < length items →
+    get_or items i d ≡ Call_item call → key ≡ key_of call →
+    now ≡ (old ++ more) ++ key ∷ [] → AllByRecursion (IsKeyed more) (take i items) → (x : List ℕ) × (now ≡ old ++ x)
+    × AllByRecursion (IsKeyed x) (take (i + 1) items)
 pushed_call old more now key items i d call h is same e all = (
   more ++ key ∷ [],
   e ∙ append_assoc old more (key ∷ []),
@@ -79,8 +77,10 @@ passed_item old more now items i d h other e all = (
       (all_both (IsKeyed more) (take i items) (get_or items i d ∷ []) all (not_call more (get_or items i d) other, tt)),
 )
 
-pub keyed_more : (old more now : List ℕ) (works : List Work) (i : ℕ) (w : Work) → i < length works → w ≡ get_or works i w → now ≡ old ++ more → AllByRecursion (IsKeyed more) w.items.items →
-    AllByRecursion (λ w. AllByRecursion (IsKeyed old) w.items.items) (take i works) → AllByRecursion (λ w. AllByRecursion (IsKeyed now) w.items.items) (take (i + 1) works)
+pub keyed_more : (old more now : List ℕ) (works : List Work) (i : ℕ) (w : Work) → i < length works → w ≡ get_or works i w → now ≡ old ++ more →
+    AllByRecursion (IsKeyed more) w.items.items →
+    AllByRecursion (λ w. AllByRecursion (IsKeyed old) w.items.items) (take i works) →
+    AllByRecursion (λ w. AllByRecursion (IsKeyed now) w.items.items) (take (i + 1) works)
 keyed_more old more now works i w h is e own all =
     subst (λ ks. AllByRecursion (λ w. AllByRecursion (IsKeyed ks) w.items.items) (take (i + 1) works)) (sym e)
     (subst (AllByRecursion (λ w. AllByRecursion (IsKeyed (old ++ more)) w.items.items)) (sym (take_one works i w h is))
@@ -93,12 +93,14 @@ mapped_more : (f : ℕ → Option ℕ) (xs : List ℕ) (x : ℕ) → map f (xs +
 mapped_more f [] x = refl
 mapped_more f (y ∷ xs) x = ap (λ zs. f y ∷ zs) (mapped_more f xs x)
 
-pub value_found : (keys values : List ℕ) (i q : ℕ) → IsBinarySearchResult (λ y. nat_cmp y q) keys (Ok i) → IsStrictlyIncreasing keys → length values ≡ length keys → (d : ℕ) → fin.get (content_of keys values) q ≡ Some (get_or values i d)
+pub value_found : (keys values : List ℕ) (i q : ℕ) → IsBinarySearchResult (λ y. nat_cmp y q) keys (Ok i) → IsStrictlyIncreasing keys →
+    length values ≡ length keys → (d : ℕ) → fin.get (content_of keys values) q ≡ Some (get_or values i d)
 value_found keys values i q r up same d =
     let f = found_at keys q i r up in
     get-from_entries nat_cmp_total (zip keys values) q ∙ ap (λ k. find nat_cmp k (zip keys values)) (sym f.1) ∙ found_value keys values i same f.0 up d
 
-pub value_missing : (keys values : List ℕ) (i q : ℕ) → IsBinarySearchResult (λ y. nat_cmp y q) keys (Err i) → IsStrictlyIncreasing keys → fin.get (content_of keys values) q ≡ None
+pub value_missing : (keys values : List ℕ) (i q : ℕ) → IsBinarySearchResult (λ y. nat_cmp y q) keys (Err i) → IsStrictlyIncreasing keys →
+    fin.get (content_of keys values) q ≡ None
 value_missing keys values i q r up =
     get-from_entries nat_cmp_total (zip keys values) q ∙ missing_value keys values q (λ j l e. by_cases j l e (cases_lt j i))
   where
@@ -114,29 +116,6 @@ values_more keys values asked i d was now v h e n is =
     ∙ mapped_more (λ k. fin.get (content_of keys values) k) (take i asked) (get_or asked i d)
     ∙ ap (λ xs. xs ++ fin.get (content_of keys values) (get_or asked i d) ∷ []) e ∙ ap (λ o. was ++ o ∷ []) is ∙ sym n
 
--- one more player
-pub parts_more : {Op : Type 0} (name : ℕ) (ws : List Work) (w : Work) → first_parts {Op = Op} name (ws ++ w ∷ []) ≡ first_parts name ws ++ first_part (name + length ws) w ∷ []
-parts_more name [] w = let e : name ≡ name + 0 = omega arith in ap (λ n. first_part n w ∷ []) e
-parts_more name (v ∷ ws) w =
-    let e : name + 1 + length ws ≡ name + suc (length ws) = omega arith in
-    ap (λ xs. first_part name v ∷ xs) (parts_more (name + 1) ws w ∙ ap (λ n. first_parts (name + 1) ws ++ first_part n w ∷ []) e)
-
-pub map_more : {X Y : Type 0} (f : X → Y) (xs : List X) (x : X) → map f (xs ++ x ∷ []) ≡ map f xs ++ f x ∷ []
-map_more f [] x = refl
-map_more f (y ∷ xs) x = ap (λ zs. f y ∷ zs) (map_more f xs x)
-
 pub nothing_left : {X : Type 0} (l : List X) → length l ≡ 0 → l ≡ []
 nothing_left [] h = refl
 nothing_left (x ∷ xs) h = absurd (omega arith)
-
-pub part_first : {Op : Type 0} (name n : ℕ) (hand : Hand) (w : Work) (os : List (Option Outcome)) → name ≡ n → hand ≡ first_hand name → os ≡ map first_outcome w.items.items →
-    ◌≡◌ {A = Part Op} (record { worker = record { name = name; number = 0; doing = Idle hand }; items = w.items.items; left = w.stop; over = 0; outcomes = os }) (first_part n w)
-part_first {Op} name n hand w os e f h =
-    ap {A = Hand} {B = Part Op} (λ x. record { worker = record { name = name; number = 0; doing = Idle x }; items = w.items.items; left = w.stop; over = 0; outcomes = os }) f
-    ∙ ap {A = List (Option Outcome)} {B = Part Op} (λ x. record { worker = record { name = name; number = 0; doing = Idle (first_hand name) }; items = w.items.items; left = w.stop; over = 0; outcomes = x }) h
-    ∙ ap (λ k. first_part k w) e
-
-pub parts_pushed : {Op : Type 0} (players later : List (Player Op)) (p : Player Op) (ws : List Work) (w : Work) → later ≡ players ++ p ∷ [] → map part_of players ≡ first_parts 1 ws → part_of p ≡ first_part (1 + length ws) w →
-    map part_of later ≡ first_parts 1 (ws ++ w ∷ [])
-parts_pushed players later p ws w e all one =
-    ap (map part_of) e ∙ map_more part_of players p ∙ ap (λ xs. xs ++ part_of p ∷ []) all ∙ ap (λ y. first_parts 1 ws ++ y ∷ []) one ∙ sym (parts_more 1 ws w)

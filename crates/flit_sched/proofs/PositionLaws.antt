@@ -11,25 +11,33 @@ use Rattle.flit_structure.specs.Meanings.{key_of}
 use Rattle.flit_sched.specs.Books.{value_after, reply_at}
 use Rattle.flit_sched.specs.Reads.{IsReplyBehind}
 use Rattle.flit_sched.proofs.SplitLists.{take_one}
-use Rattle.flit_sched.proofs.BookLaws.{any_default, reply_here, value_here, value_there}
+use Rattle.flit_sched.proofs.BookLaws.{reply_here, value_here, value_there}
+use Rattle.flit_sched.proofs.SplitLists.{any_default}
 
 next_map : (content : Map) (updates : List Entry) (i : ℕ) (d : Entry) → i < length updates →
     map_after_all content (take (i + 1) updates) ≡ map_after (map_after_all content (take i updates)) (get_or updates i d).call
-next_map content updates i d h = ap (λ es. map_after_all content es) (take_one updates i (get_or updates i d) h (any_default updates i d (get_or updates i d) h)) ∙ map_after_all-append content (take i updates) (get_or updates i d ∷ [])
+next_map content updates i d h = ap (λ es. map_after_all content es) (take_one updates i (get_or updates i d) h
+    (any_default updates i d (get_or updates i d) h)) ∙ map_after_all-append content (take i updates) (get_or updates i d ∷ [])
 
 -- what the map has at a key behind one update more
-pub value_next : (content : Map) (updates : List Entry) (i : ℕ) (d : Entry) (key : ℕ) (value : Option ℕ) → i < length updates → key_of (get_or updates i d).call ≡ key →
-    value ≡ fin.get (map_after_all content (take i updates)) key → value_after (get_or updates i d).call value ≡ fin.get (map_after_all content (take (i + 1) updates)) key
+pub value_next : (content : Map) (updates : List Entry) (i : ℕ) (d : Entry) (key : ℕ) (value : Option ℕ) → i < length updates →
+    key_of (get_or updates i d).call ≡ key →
+    value ≡ fin.get (map_after_all content (take i updates)) key → value_after (get_or updates i d).call value ≡ fin.get
+    (map_after_all content (take (i + 1) updates)) key
 value_next content updates i d key value h same now =
-    ap (λ o. value_after (get_or updates i d).call o) now ∙ sym (ap (λ M. fin.get M key) (next_map content updates i d h) ∙ value_here (map_after_all content (take i updates)) (get_or updates i d).call key (sym same))
+    ap (λ o. value_after (get_or updates i d).call o) now ∙ sym (ap (λ M. fin.get M key) (next_map content updates i d h)
+    ∙ value_here (map_after_all content (take i updates)) (get_or updates i d).call key (sym same))
 
-pub value_kept : (content : Map) (updates : List Entry) (i : ℕ) (d : Entry) (key : ℕ) (value : Option ℕ) → i < length updates → (key_of (get_or updates i d).call ≡ key → ⊥) →
+pub value_kept : (content : Map) (updates : List Entry) (i : ℕ) (d : Entry) (key : ℕ) (value : Option ℕ) → i < length updates →
+    (key_of (get_or updates i d).call ≡ key → ⊥) →
     value ≡ fin.get (map_after_all content (take i updates)) key → value ≡ fin.get (map_after_all content (take (i + 1) updates)) key
 value_kept content updates i d key value h other now =
-    now ∙ sym (ap (λ M. fin.get M key) (next_map content updates i d h) ∙ value_there (map_after_all content (take i updates)) (get_or updates i d).call key (λ q. other (sym q)))
+    now ∙ sym (ap (λ M. fin.get M key) (next_map content updates i d h) ∙ value_there (map_after_all content (take i updates)) (get_or updates i d).call key
+    (λ q. other (sym q)))
 
 -- a reply that isn't the map's isn't right there
-pub not_right : (content : Map) (updates : List Entry) (i : ℕ) (call : Call) (reply : Reply) (value : Option ℕ) → value ≡ fin.get (map_after_all content (take i updates)) (key_of call) →
+pub not_right : (content : Map) (updates : List Entry) (i : ℕ) (call : Call) (reply : Reply) (value : Option ℕ) →
+    value ≡ fin.get (map_after_all content (take i updates)) (key_of call) →
     (reply_at call value ≡ reply → ⊥) → ¬ (IsReplyBehind content updates call reply i)
 not_right content updates i call reply value now other right =
     other (ap (λ o. reply_at call o) now ∙ sym (reply_here (map_after_all content (take i updates)) call) ∙ sym right)

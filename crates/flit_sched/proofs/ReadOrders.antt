@@ -80,7 +80,8 @@ own_le a = le-leb a a (omega arith)
 pub placed_order : IsOrder placed_before
 placed_order = record {
   total = λ q r. total_then q.position r.position _ _ (total_then q.entry.worker r.entry.worker _ _ (total_le q.entry.number r.entry.number));
-  on = λ q r s. on_then q.position r.position s.position _ _ _ (on_then q.entry.worker r.entry.worker s.entry.worker _ _ _ (on_le q.entry.number r.entry.number s.entry.number));
+  on = λ q r s. on_then q.position r.position s.position _ _ _ (on_then q.entry.worker r.entry.worker s.entry.worker _ _ _
+      (on_le q.entry.number r.entry.number s.entry.number));
   own = λ r. own_then r.position _ (own_then r.entry.worker _ (own_le r.entry.number));
 }
 
@@ -110,12 +111,14 @@ not_below a b = elim (cases_order a b) [
       | inr t ↦ t.0
     ]
 
-pub not_below_key : (q r : Placed) → not (is_lt (ordering_then (nat_cmp q.position r.position) (ordering_then (nat_cmp q.entry.worker r.entry.worker) (nat_cmp q.entry.number r.entry.number)))) ≡ placed_before r q
+pub not_below_key : (q r : Placed) → not (is_lt (ordering_then (nat_cmp q.position r.position)
+    (ordering_then (nat_cmp q.entry.worker r.entry.worker) (nat_cmp q.entry.number r.entry.number)))) ≡ placed_before r q
 not_below_key q r = not_below_then q.position r.position _ _ (not_below_then q.entry.worker r.entry.worker _ _ (not_below q.entry.number r.entry.number))
 
 -- how the keys of two reads compare
 abbrev pub compare_reads : Placed → Placed → Ordering
-compare_reads q r = ordering_then (ordering_then (nat_cmp q.position r.position) (nat_cmp q.entry.worker r.entry.worker)) (nat_cmp q.entry.number r.entry.number)
+compare_reads q r = ordering_then (ordering_then (nat_cmp q.position r.position) (nat_cmp q.entry.worker r.entry.worker))
+    (nat_cmp q.entry.number r.entry.number)
 
 then_then : (a b c : Ordering) → ordering_then (ordering_then a b) c ≡ ordering_then a (ordering_then b c)
 then_then Less b c = refl
@@ -123,15 +126,18 @@ then_then Equal b c = refl
 then_then Greater b c = refl
 
 not_before : (q r : Placed) → not (is_lt (compare_reads q r)) ≡ placed_before r q
-not_before q r = ap (λ o. not (is_lt o)) (then_then (nat_cmp q.position r.position) (nat_cmp q.entry.worker r.entry.worker) (nat_cmp q.entry.number r.entry.number)) ∙ not_below_key q r
+not_before q r = ap (λ o. not (is_lt o)) (then_then (nat_cmp q.position r.position) (nat_cmp q.entry.worker r.entry.worker)
+    (nat_cmp q.entry.number r.entry.number)) ∙ not_below_key q r
 
 -- what a stable sort by these keys leaves
-pub sorted_reads_are : (xs ys : List Placed) → ((k : ℕ) (d : Placed) → 0 ≤ k → k + 1 < length ys → is_lt (compare_reads (get_or ys (k + 1) d) (get_or ys k d)) ≡ false)
+pub sorted_reads_are : (xs ys : List Placed) → ((k : ℕ) (d : Placed) → 0 ≤ k → k + 1 < length ys →
+    is_lt (compare_reads (get_or ys (k + 1) d) (get_or ys k d)) ≡ false)
     → ((x : Placed) → filter (ties (λ q r. is_lt (compare_reads q r)) x) ys ≡ filter (ties (λ q r. is_lt (compare_reads q r)) x) xs) → ys ≡ placed_in_order xs
 sorted_reads_are xs ys up still =
     let same : (x : Placed) → ties (λ q r. is_lt (compare_reads q r)) x ≡ tie placed_before x = λ x i y. not_before x y i && not_before y x i in
     stable_sort placed_before placed_order xs ys
-    (λ k d b. sym (not_before (get_or ys (suc k) d) (get_or ys k d)) ∙ ap (λ n. not (is_lt (compare_reads (get_or ys n d) (get_or ys k d)))) (sym (add-one k)) ∙ ap not (up k d (omega arith) (omega arith)))
+    (λ k d b. sym (not_before (get_or ys (suc k) d) (get_or ys k d)) ∙ ap (λ n. not (is_lt (compare_reads (get_or ys n d) (get_or ys k d)))) (sym (add-one k))
+    ∙ ap not (up k d (omega arith) (omega arith)))
     (λ x. sym (ap (λ t. filter t ys) (same x)) ∙ still x ∙ ap (λ t. filter t xs) (same x))
 
 -- ---- reads of one position
@@ -198,7 +204,8 @@ module _ (n : ℕ) (r : Placed) (elsewhere : (r.position == n) ≡ false) where
   skip : (qs : List Placed) → those_at n (r ∷ qs) ≡ those_at n qs
   skip qs = ap (λ c. map (λ p. p.entry) (cond c (r ∷ filter (λ p. p.position == n) qs) (filter (λ p. p.position == n) qs))) elsewhere
 
-  put_elsewhere_if : (q : Placed) (qs later : List Placed) (b : Bool) → those_at n later ≡ those_at n qs → those_at n (cond b (r ∷ q ∷ qs) (q ∷ later)) ≡ those_at n (q ∷ qs)
+  put_elsewhere_if : (q : Placed) (qs later : List Placed) (b : Bool) → those_at n later ≡ those_at n qs →
+      those_at n (cond b (r ∷ q ∷ qs) (q ∷ later)) ≡ those_at n (q ∷ qs)
   put_elsewhere_if q qs later true k = skip (q ∷ qs)
   put_elsewhere_if q qs later false k = same (q.position == n)
     where
@@ -212,7 +219,8 @@ module _ (n : ℕ) (r : Placed) (elsewhere : (r.position == n) ≡ false) where
   put_elsewhere (q ∷ qs) = put_elsewhere_if q qs (put_by placed_before r qs) (placed_before r q) (put_elsewhere qs)
 
 sorted_at_if : (n : ℕ) (r : Placed) (rs : List Placed) (b : Bool) → (r.position == n) ≡ b → those_at n (placed_in_order rs) ≡ reads_at n rs
-    → those_at n (put_by placed_before r (placed_in_order rs)) ≡ in_order (map (λ p. p.entry) (cond b (r ∷ filter (λ p. p.position == n) rs) (filter (λ p. p.position == n) rs)))
+    → those_at n (put_by placed_before r (placed_in_order rs)) ≡ in_order (map (λ p. p.entry)
+    (cond b (r ∷ filter (λ p. p.position == n) rs) (filter (λ p. p.position == n) rs)))
 sorted_at_if n r rs true e k = put_at n r e (placed_in_order rs) (up_sorted placed_before placed_order rs) ∙ ap (put_in_order r.entry) k
 sorted_at_if n r rs false e k = put_elsewhere n r e (placed_in_order rs) ∙ k
 
@@ -234,7 +242,8 @@ position_up a b c e = elim (by_told a b c e) [
 
 from_on : (n : ℕ) (r : Placed) (rs : List Placed) → n ≤ r.position → Below placed_before r rs → AreFrom n rs
 from_on n r [] h k = tt
-from_on n r (q ∷ qs) h k = let l : r.position ≤ q.position = position_up r.position q.position (stands_before r.entry q.entry) k.0 in (omega arith, from_on n r qs h k.1)
+from_on n r (q ∷ qs) h k = let l : r.position ≤ q.position = position_up r.position q.position (stands_before r.entry q.entry) k.0 in
+    (omega arith, from_on n r qs h k.1)
 
 none_at : (n : ℕ) (rs : List Placed) → AreFrom (suc n) rs → those_at n rs ≡ []
 none_at n [] h = refl
@@ -253,7 +262,8 @@ front_step : (n : ℕ) (r : Placed) (rs : List Placed) (b : Bool) → (r.positio
     → IsFront n rs (behind_front n rs) (front_at n rs)
     → IsFront n (r ∷ rs) (cond b (behind_front n rs) (r ∷ rs)) (cond b (r.entry ∷ front_at n rs) [])
 front_step n r rs true e up h k = record {
-  front = ap (λ l. r.entry ∷ l) k.front ∙ sym (ap (λ c. map (λ p. p.entry) (cond c (r ∷ filter (λ p. p.position == n) rs) (filter (λ p. p.position == n) rs))) e);
+  front = ap (λ l. r.entry ∷ l) k.front ∙ sym (ap (λ c. map (λ p. p.entry) (cond c (r ∷ filter (λ p. p.position == n) rs) (filter (λ p. p.position == n) rs)))
+      e);
   left = record {
     up = k.left.up;
     from = k.left.from;
@@ -262,7 +272,8 @@ front_step n r rs true e up h k = record {
 }
 front_step n r rs false e up h k =
     let apart : r.position ≡ n → ⊥ = λ f. none_true (sym e ∙ ap (λ p. p == n) f ∙ eq-eqb n n refl) in
-    let past : suc n ≤ r.position = (let e1 = apart in elim (cases_order n r.position) [ inl f ↦ absurd (apart (sym f)) | inr o ↦ elim o [ inl l ↦ omega arith | inr l ↦ omega arith ] ]) in
+    let past : suc n ≤ r.position = (let e1 = apart in elim (cases_order n r.position)
+    [ inl f ↦ absurd (apart (sym f)) | inr o ↦ elim o [ inl l ↦ omega arith | inr l ↦ omega arith ] ]) in
     record {
       front = sym (none_at n (r ∷ rs) (past, from_on (suc n) r rs past up.0));
       left = record { up = up; from = (past, from_on (suc n) r rs past up.0); same = λ m l. refl };

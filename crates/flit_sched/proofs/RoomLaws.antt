@@ -23,7 +23,8 @@ total_rises : {X : Type 0} (f g : X → ℕ) (xs : List X) → ((x : X) → f x 
 total_rises f g [] h = omega arith
 total_rises f g (x ∷ xs) h = let r = total_rises f g xs h in let k = h x in omega arith
 
-total_bumps : {X : Type 0} (f g : X → ℕ) (a : List X) (x : X) (b : List X) → ((y : X) → f y ≤ g y) → suc (f x) ≤ g x → suc (total f (a ++ x ∷ b)) ≤ total g (a ++ x ∷ b)
+total_bumps : {X : Type 0} (f g : X → ℕ) (a : List X) (x : X) (b : List X) → ((y : X) → f y ≤ g y) → suc (f x) ≤ g x →
+    suc (total f (a ++ x ∷ b)) ≤ total g (a ++ x ∷ b)
 total_bumps f g [] x b h k = let r = total_rises f g b h in omega arith
 total_bumps f g (y ∷ a) x b h k = let r = total_bumps f g a x b h k in let q = h y in omega arith
 
@@ -31,10 +32,12 @@ rising_short : (low top : ℕ) (ks : List ℕ) → IsRisingFrom low ks → AllBy
 rising_short low top [] r h k = omega arith
 rising_short low top (x ∷ ks) r h k = let q = rising_short (suc x) top ks r.1 h.1 (let y = h.0 in omega arith) in let y = r.0 in omega arith
 
-one_more : (e : Entry) (es : List Entry) (name : ℕ) → length (numbers_of name (e ∷ es)) ≡ cond (e.worker == name) (suc (length (numbers_of name es))) (length (numbers_of name es))
+one_more : (e : Entry) (es : List Entry) (name : ℕ) → length (numbers_of name (e ∷ es)) ≡ cond (e.worker == name) (suc (length (numbers_of name es)))
+    (length (numbers_of name es))
 one_more e es name = by_test (e.worker == name)
   where
-    by_test : (t : Bool) → length (map (λ x. x.number) (cond t (e ∷ filter (λ x. x.worker == name) es) (filter (λ x. x.worker == name) es))) ≡ cond t (suc (length (numbers_of name es))) (length (numbers_of name es))
+    by_test : (t : Bool) → length (map (λ x. x.number) (cond t (e ∷ filter (λ x. x.worker == name) es) (filter (λ x. x.worker == name) es))) ≡ cond t
+        (suc (length (numbers_of name es))) (length (numbers_of name es))
     by_test true = refl
     by_test false = refl
 
@@ -58,12 +61,16 @@ module _ {Op : Type 0} where
           by_test false = omega arith
 
       here : suc (count_of es h.0.0) ≤ count_of (e ∷ es) h.0.0
-      here = subst (λ n. suc (length (numbers_of h.0.0.name es)) ≤ n) (sym (one_more e es h.0.0.name ∙ ap (λ t. cond t (suc (length (numbers_of h.0.0.name es))) (length (numbers_of h.0.0.name es))) (eq-eqb e.worker h.0.0.name (sym h.0.2)))) (omega arith)
+      here = subst (λ n. suc (length (numbers_of h.0.0.name es)) ≤ n) (sym (one_more e es h.0.0.name
+          ∙ ap (λ t. cond t (suc (length (numbers_of h.0.0.name es))) (length (numbers_of h.0.0.name es))) (eq-eqb e.worker h.0.0.name (sym h.0.2))))
+          (omega arith)
 
       bumped : suc (total (count_of es) us) ≤ total (count_of (e ∷ es)) us
-      bumped = subst (λ vs. suc (total (count_of es) vs) ≤ total (count_of (e ∷ es)) vs) (sym h.0.1.2) (total_bumps (count_of es) (count_of (e ∷ es)) h.0.1.0 h.0.0 h.0.1.1 grows here)
+      bumped = subst (λ vs. suc (total (count_of es) vs) ≤ total (count_of (e ∷ es)) vs) (sym h.0.1.2)
+          (total_bumps (count_of es) (count_of (e ∷ es)) h.0.1.0 h.0.0 h.0.1.1 grows here)
 
-  numbers_below : (us : List (Worker Op)) (u : Worker Op) (es : List Entry) → HaveDifferentNames us → IsAmong us u → AllByRecursion (IsOfHand us) es → AllByRecursion (λ n. n ≤ u.number) (numbers_of u.name es)
+  numbers_below : (us : List (Worker Op)) (u : Worker Op) (es : List Entry) → HaveDifferentNames us → IsAmong us u → AllByRecursion (IsOfHand us) es →
+      AllByRecursion (λ n. n ≤ u.number) (numbers_of u.name es)
   numbers_below us u [] distinct among h = tt
   numbers_below us u (e ∷ es) distinct among h = by_test (numbers_below us u es distinct among h.1) (e.worker == u.name) refl
     where
@@ -75,7 +82,8 @@ module _ {Op : Type 0} where
           (subst (λ w. e.number ≤ w.number) same v.3, rest)
       by_test rest false is = rest
 
-  all_counts : (us vs : List (Worker Op)) (es : List Entry) → HaveDifferentNames us → AllByRecursion (IsOfHand us) es → ((name : ℕ) → IsRisingFrom 0 (numbers_of name es)) →
+  all_counts : (us vs : List (Worker Op)) (es : List Entry) → HaveDifferentNames us → AllByRecursion (IsOfHand us) es →
+      ((name : ℕ) → IsRisingFrom 0 (numbers_of name es)) →
       ((u : Worker Op) → IsAmong vs u → IsAmong us u) → total (count_of es) vs ≤ total (λ u. suc u.number) vs
   all_counts us [] es distinct h up among = omega arith
   all_counts us (v ∷ vs) es distinct h up among =
@@ -83,20 +91,21 @@ module _ {Op : Type 0} where
       let rest = all_counts us vs es distinct h up (λ u a. among u (v ∷ a.0, a.1, ap (λ ws. v ∷ ws) a.2)) in
       omega (arith, one, rest)
 
-module _ {S Op : Type 0} (meaning : Meaning S Op) (l : Lawful meaning) (s : S) where
+module _ {Op : Type 0} (meaning : Meaning Op) (l : Lawful meaning) where
   -- where an entry waits there is room for it
-  pub room : (M : Moment Op) (word : ℕ) (y : Entry) → meaning.holds s M → fin.get M.progress.waiting word ≡ Some y → suc (length M.progress.settled) ≤ total (λ u. suc u.number) M.workers
+  pub room : (M : Moment Op) (word : ℕ) (y : Entry) → meaning.holds M → fin.get M.progress.waiting word ≡ Some y →
+      suc (length M.progress.settled) ≤ total (λ u. suc u.number) M.workers
   room M word y h w =
-      let all = counted M.workers (made M.progress) (l.numbered s M h) in
-      let each = all_counts M.workers M.workers (made M.progress) (l.distinct s M h) (l.numbered s M h) (λ name. l.rises s M name h) (λ u a. a) in
+      let all = counted M.workers (made M.progress) (l.entries M h).numbered in
+      let each = all_counts M.workers M.workers (made M.progress) (l.named M h).different (l.entries M h).numbered (l.entries M h).rises (λ u a. a) in
       let one = some_waits (fin.entries M.progress.waiting) word y (sym (get-entries M.progress.waiting word) ∙ w) in
       let long = length-append M.progress.settled (waiting_updates M.progress) in
       omega (arith, all, each, one, long)
 
   -- the settled updates are no more than that
-  pub room_any : (M : Moment Op) → meaning.holds s M → length M.progress.settled ≤ total (λ u. suc u.number) M.workers
+  pub room_any : (M : Moment Op) → meaning.holds M → length M.progress.settled ≤ total (λ u. suc u.number) M.workers
   room_any M h =
-      let all = counted M.workers (made M.progress) (l.numbered s M h) in
-      let each = all_counts M.workers M.workers (made M.progress) (l.distinct s M h) (l.numbered s M h) (λ name. l.rises s M name h) (λ u a. a) in
+      let all = counted M.workers (made M.progress) (l.entries M h).numbered in
+      let each = all_counts M.workers M.workers (made M.progress) (l.named M h).different (l.entries M h).numbered (l.entries M h).rises (λ u a. a) in
       let long = length-append M.progress.settled (waiting_updates M.progress) in
       omega (arith, all, each, long)

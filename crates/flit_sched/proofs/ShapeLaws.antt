@@ -12,8 +12,8 @@ use Rattle.flit_model.specs.Lists.{IsChain, IsListLink, IsLawfulChain, next_word
 use Rattle.flit_model.specs.Trees.{Tree, Leaf, Inner, IsEdgeTo, IsLeafAt, IsInnerAt, IsTree, tree_pairs, left_word, right_word}
 use Rattle.flit_model.specs.Images.{Shape, Chains, Grown, IsLawfulAs, map_in, free_rows}
 use Rattle.flit_model.proofs.HistoryLaws.{all_weaker}
-use Rattle.flit_image.specs.Images.{SameShape}
-use Rattle.flit_recover.specs.Damages.{IsRecovery}
+use Rattle.flit_model.specs.Recovery.{SameShape}
+use Rattle.flit_model.specs.Recovery.{IsRecovery}
 
 -- two layouts that have the same words
 module _ (kind : Kind) (buckets rows : ℕ) (values : Bool) (slots workers limit slots_too workers_too limit_too : ℕ) where
@@ -70,7 +70,12 @@ module _ (kind : Kind) (buckets rows : ℕ) (values : Bool) (slots workers limit
 
     tree_too : (edge lo hi : ℕ) (t : Tree) → IsTree one image edge lo hi t → IsTree other image edge lo hi t
     tree_too edge lo hi (Leaf r) h = leaf_too edge lo hi r h
-    tree_too edge lo hi (Inner r a b) h = (inner_too edge lo hi r h.0, tree_too (left_word one r) lo (key_in one image r) a h.1, tree_too (right_word one r) (key_in one image r) hi b h.2)
+    tree_too edge lo hi (Inner r a b) h = (
+      inner_too edge lo hi r h.0,
+      tree_too (left_word one r) lo (key_in one image r) a h.1,
+      tree_too (right_word one r)
+          (key_in one image r) hi b h.2,
+    )
 
     pairs_too : (edge : ℕ) (t : Tree) → tree_pairs one image edge t ≡ tree_pairs other image edge t
     pairs_too edge (Leaf r) = refl
@@ -79,7 +84,15 @@ module _ (kind : Kind) (buckets rows : ℕ) (values : Bool) (slots workers limit
         ∙ ap (λ ps. tree_pairs other image (left_word other r) a ++ ps) (pairs_too (right_word one r) b)
 
     lawful_too : (s : Shape) → IsLawfulAs one image s → IsLawfulAs other image s
-    lawful_too (Chains chain) h = (h.0, record { whole = h.1.whole; untagged = h.1.untagged; chains = λ head below. lawful_chain_too head (chain head) (h.1.chains head below) })
+    lawful_too (Chains chain) h = (
+      h.0,
+      record {
+        whole = h.1.whole;
+        untagged = h.1.untagged;
+        chains =
+            λ head below. lawful_chain_too head (chain head) (h.1.chains head below);
+      },
+    )
     lawful_too (Grown t) h = (
       h.0,
       record {
@@ -116,7 +129,11 @@ module _ (kind : Kind) (buckets rows : ℕ) (values : Bool) (slots workers limit
 pub same_shape_recovery : (l k : Layout) (image keys vals free : List ℕ) → SameShape l k → IsRecovery l image keys vals free → IsRecovery k image keys vals free
 same_shape_recovery l k image keys vals free same h =
     recovery_too k.kind k.buckets k.rows k.values l.slots l.workers l.limit k.slots k.workers k.limit image keys vals free
-    (subst (λ v. IsRecovery (record { kind = k.kind; buckets = k.buckets; rows = k.rows; slots = l.slots; workers = l.workers; limit = l.limit; values = v }) image keys vals free) same.values
-    (subst (λ n. IsRecovery (record { kind = k.kind; buckets = k.buckets; rows = n; slots = l.slots; workers = l.workers; limit = l.limit; values = l.values }) image keys vals free) same.rows
-    (subst (λ n. IsRecovery (record { kind = k.kind; buckets = n; rows = l.rows; slots = l.slots; workers = l.workers; limit = l.limit; values = l.values }) image keys vals free) same.buckets
-    (subst (λ x. IsRecovery (record { kind = x; buckets = l.buckets; rows = l.rows; slots = l.slots; workers = l.workers; limit = l.limit; values = l.values }) image keys vals free) same.kind h))))
+    (subst (λ v. IsRecovery (record { kind = k.kind; buckets = k.buckets; rows = k.rows; slots = l.slots; workers = l.workers; limit = l.limit; values = v })
+    image keys vals free) same.values
+    (subst (λ n. IsRecovery (record { kind = k.kind; buckets = k.buckets; rows = n; slots = l.slots; workers = l.workers; limit = l.limit; values = l.values })
+    image keys vals free) same.rows
+    (subst (λ n. IsRecovery (record { kind = k.kind; buckets = n; rows = l.rows; slots = l.slots; workers = l.workers; limit = l.limit; values = l.values })
+    image keys vals free) same.buckets
+    (subst (λ x. IsRecovery (record { kind = x; buckets = l.buckets; rows = l.rows; slots = l.slots; workers = l.workers; limit = l.limit; values = l.values })
+    image keys vals free) same.kind h))))

@@ -15,7 +15,14 @@ splits_at [] i x h e = absurd (omega arith)
 splits_at (y ∷ xs) zero x h e = record { before = []; behind = xs; is = ap (λ z. z ∷ xs) (sym e); long = refl; put = λ z. refl; front = refl }
 splits_at {X} (y ∷ xs) (suc i) x h e =
     let r : SplitsAt xs i x = splits_at xs i x (omega arith) e in
-    record { before = y ∷ r.before; behind = r.behind; is = ap (λ zs. y ∷ zs) r.is; long = ap (λ n. suc n) r.long; put = λ z. ap (λ zs. y ∷ zs) (r.put z); front = ap (λ zs. y ∷ zs) r.front }
+    record {
+      before = y ∷ r.before;
+      behind = r.behind;
+      is = ap (λ zs. y ∷ zs) r.is;
+      long = ap (λ n. suc n) r.long;
+      put = λ z. ap (λ zs. y ∷ zs) (r.put z);
+      front = ap (λ zs. y ∷ zs) r.front;
+    }
 
 -- a list is split at one place in one way
 pub record SameSplit {X : Type 0} (a b c d : List X) (x y : X) : Type 0 where
@@ -50,3 +57,12 @@ take_suc (y ∷ xs) (suc i) x h e = ap (λ zs. y ∷ zs) (take_suc xs i x (omega
 
 pub take_one : {X : Type 0} (xs : List X) (i : ℕ) (x : X) → i < length xs → x ≡ get_or xs i x → take (i + 1) xs ≡ take i xs ++ x ∷ []
 take_one xs i x h e = let n : i + 1 ≡ suc i = omega arith in ap (λ k. take k xs) n ∙ take_suc xs i x h e
+
+-- what stands at a place, whatever stands for none
+pub any_default : {X : Type 0} (xs : List X) (k : ℕ) (d e : X) → k < length xs → get_or xs k d ≡ get_or xs k e
+any_default [] k d e h = absurd (omega arith)
+any_default (x ∷ xs) zero d e h = refl
+any_default (x ∷ xs) (suc k) d e h = any_default xs k d e (omega arith)
+
+pub one_there : {X : Type 0} (xs : List X) (i : ℕ) (x y : X) → i < length xs → x ≡ get_or xs i x → y ≡ get_or xs i y → x ≡ y
+one_there xs i x y lt e f = e ∙ any_default xs i x y lt ∙ sym f

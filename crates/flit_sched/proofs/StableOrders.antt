@@ -54,7 +54,8 @@ module _ {X : Type 0} (le : X → X → Bool) where
 
     -- ---- and what ties stays as it was
 
-    swap_if : (a y : X) (l : List X) (b c : Bool) → (b ≡ true → c ≡ true → ⊥) → cond c (y ∷ cond b (a ∷ l) l) (cond b (a ∷ l) l) ≡ cond b (a ∷ cond c (y ∷ l) l) (cond c (y ∷ l) l)
+    swap_if : (a y : X) (l : List X) (b c : Bool) → (b ≡ true → c ≡ true → ⊥) →
+        cond c (y ∷ cond b (a ∷ l) l) (cond b (a ∷ l) l) ≡ cond b (a ∷ cond c (y ∷ l) l) (cond c (y ∷ l) l)
     swap_if a y l true true h = absurd (h refl refl)
     swap_if a y l true false h = refl
     swap_if a y l false true h = refl
@@ -67,7 +68,8 @@ module _ {X : Type 0} (le : X → X → Bool) where
     none_true : false ≡ true → ⊥
     none_true h = cc
 
-    ties_put_if : (x a y : X) (ys zs : List X) (b : Bool) → le a y ≡ b → filter (tie x) zs ≡ filter (tie x) (a ∷ ys) → filter (tie x) (cond b (a ∷ y ∷ ys) (y ∷ zs)) ≡ filter (tie x) (a ∷ y ∷ ys)
+    ties_put_if : (x a y : X) (ys zs : List X) (b : Bool) → le a y ≡ b → filter (tie x) zs ≡ filter (tie x) (a ∷ ys) →
+        filter (tie x) (cond b (a ∷ y ∷ ys) (y ∷ zs)) ≡ filter (tie x) (a ∷ y ∷ ys)
     ties_put_if x a y ys zs true e h = refl
     ties_put_if x a y ys zs false e h =
         ap (λ l. cond (tie x y) (y ∷ l) l) h
@@ -89,7 +91,8 @@ module _ {X : Type 0} (le : X → X → Bool) where
     kept_own : (x : X) (xs : List X) → filter (tie x) (x ∷ xs) ≡ x ∷ filter (tie x) xs
     kept_own x xs = ap (λ b. cond b (x ∷ filter (tie x) xs) (filter (tie x) xs)) (tie_own x)
 
-    above_kept_if : (x y z : X) (zs l : List X) (b : Bool) → tie x z ≡ b → le y z ≡ true → (filter (tie x) zs ≡ x ∷ l → le y x ≡ true) → cond b (z ∷ filter (tie x) zs) (filter (tie x) zs) ≡ x ∷ l → le y x ≡ true
+    above_kept_if : (x y z : X) (zs l : List X) (b : Bool) → tie x z ≡ b → le y z ≡ true → (filter (tie x) zs ≡ x ∷ l → le y x ≡ true) →
+        cond b (z ∷ filter (tie x) zs) (filter (tie x) zs) ≡ x ∷ l → le y x ≡ true
     above_kept_if x y z zs l true e h k is = o.on y z x h (both (le z x) (le x z) e).0
     above_kept_if x y z zs l false e h k is = k is
 
@@ -111,7 +114,8 @@ module _ {X : Type 0} (le : X → X → Bool) where
     heads_same x y xs ys h k same =
         let low : le y x ≡ true = above_kept x y (y ∷ ys) (filter (tie x) xs) (o.own y, k) (sym (same x) ∙ kept_own x xs) in
         let high : le x y ≡ true = above_kept y x (x ∷ xs) (filter (tie y) ys) (o.own x, h) (same y ∙ kept_own y ys) in
-        let e : x ∷ filter (tie x) xs ≡ y ∷ filter (tie x) ys = sym (kept_own x xs) ∙ same x ∙ ap (λ b. cond b (y ∷ filter (tie x) ys) (filter (tie x) ys)) (tie_of x y low high) in
+        let e : x ∷ filter (tie x) xs ≡ y ∷ filter (tie x) ys = sym (kept_own x xs) ∙ same x
+        ∙ ap (λ b. cond b (y ∷ filter (tie x) ys) (filter (tie x) ys)) (tie_of x y low high) in
         cc
 
     pub one_order : (xs ys : List X) → Up xs → Up ys → ((x : X) → filter (tie x) xs ≡ filter (tie x) ys) → xs ≡ ys
@@ -120,7 +124,8 @@ module _ {X : Type 0} (le : X → X → Bool) where
     one_order (x ∷ xs) [] h k same = absurd (let e : [] ≡ x ∷ filter (tie x) xs = sym (same x) ∙ kept_own x xs in let none : ⊥ = cc in none)
     one_order (x ∷ xs) (y ∷ ys) h k same =
         let e : x ≡ y = heads_same x y xs ys h.0 k.0 same in
-        let rest : xs ≡ ys = one_order xs ys h.1 k.1 (λ z. tails_if x y (filter (tie z) xs) (filter (tie z) ys) (tie z x) (same z ∙ ap (λ w. cond (tie z w) (y ∷ filter (tie z) ys) (filter (tie z) ys)) (sym e))) in
+        let rest : xs ≡ ys = one_order xs ys h.1 k.1 (λ z. tails_if x y (filter (tie z) xs) (filter (tie z) ys) (tie z x)
+        (same z ∙ ap (λ w. cond (tie z w) (y ∷ filter (tie z) ys) (filter (tie z) ys)) (sym e))) in
         cc
 
     -- ---- neighbours in order
@@ -134,5 +139,6 @@ module _ {X : Type 0} (le : X → X → Bool) where
         ((first, below_on x y ys first rest.0), rest)
 
     -- what a stable sort leaves is what is put in order one by one
-    pub stable_sort : (xs ys : List X) → ((k : ℕ) (d : X) → suc k < length ys → le (get_or ys k d) (get_or ys (suc k) d) ≡ true) → ((x : X) → filter (tie x) ys ≡ filter (tie x) xs) → ys ≡ sorted xs
+    pub stable_sort : (xs ys : List X) → ((k : ℕ) (d : X) → suc k < length ys → le (get_or ys k d) (get_or ys (suc k) d) ≡ true) →
+        ((x : X) → filter (tie x) ys ≡ filter (tie x) xs) → ys ≡ sorted xs
     stable_sort xs ys rises same = one_order ys (sorted xs) (up_of ys rises) (up_sorted xs) (λ x. same x ∙ sym (ties_sorted x xs))

@@ -66,7 +66,8 @@ module _ {X : Type 0} where
   insert_entry-put (e ∷ es) k v = by_order_is (nat_cmp k e.0) _ _ _ _ (ap (λ xs. e ∷ xs) (insert_entry-put es k v))
 
   -- a tree map with the entries of a map, and one entry more
-  pub entries_put : (m : FinMap nat_cmp X) (made later : List (ℕ × X)) (k : ℕ) (v : X) → made ≡ entries m → later ≡ insert_entry nat_cmp made k v → later ≡ entries (insert m k v)
+  pub entries_put : (m : FinMap nat_cmp X) (made later : List (ℕ × X)) (k : ℕ) (v : X) → made ≡ entries m → later ≡ insert_entry nat_cmp made k v →
+      later ≡ entries (insert m k v)
   entries_put m made later k v same e = e ∙ insert_entry-put made k v ∙ ap (put nat_cmp k v) same ∙ sym (entries-insert nat_cmp_total m k v)
 
   pub entries-empty : entries (empty {X = X} {R = nat_cmp}) ≡ []
@@ -102,10 +103,12 @@ module _ {X : Type 0} where
     else_at q e = later_at q false e ∙ ap (λ c. cond c (get m q) None) (or_false (is_in words q)) ∙ sym (kept m (is_in words) q)
 
     pub retain_more : (v : X) → get m w ≡ Some v → insert (retain_keys m (is_in words)) w v ≡ retain_keys m (is_in (words ++ w ∷ []))
-    retain_more v has = same _ _ (λ q. get-insert nat_cmp_total (retain_keys m (is_in words)) w v q ∙ elim (same_word q w) as (λ r. cond (eq_by_cmp nat_cmp q w) (Some v) (get (retain_keys m (is_in words)) q) ≡ get (retain_keys m (is_in (words ++ w ∷ []))) q) [
-      | inl e ↦ ap (λ b. cond b (Some v) (get (retain_keys m (is_in words)) q)) e.1 ∙ sym (here_at q e.2 ∙ ap (get m) e.0 ∙ has)
-      | inr e ↦ ap (λ b. cond b (Some v) (get (retain_keys m (is_in words)) q)) e.0 ∙ sym (else_at q e.1)
-    ])
+    retain_more v has = same _ _ (λ q. get-insert nat_cmp_total (retain_keys m (is_in words)) w v q
+        ∙ elim (same_word q w) as (λ r. cond (eq_by_cmp nat_cmp q w) (Some v) (get (retain_keys m (is_in words)) q) ≡ get
+        (retain_keys m (is_in (words ++ w ∷ []))) q) [
+          | inl e ↦ ap (λ b. cond b (Some v) (get (retain_keys m (is_in words)) q)) e.1 ∙ sym (here_at q e.2 ∙ ap (get m) e.0 ∙ has)
+          | inr e ↦ ap (λ b. cond b (Some v) (get (retain_keys m (is_in words)) q)) e.0 ∙ sym (else_at q e.1)
+        ])
 
     none_if : {Y : Type 0} (b : Bool) (o : Option Y) → o ≡ None → cond b o None ≡ o
     none_if true o e = refl
@@ -126,7 +129,8 @@ module _ {X : Type 0} where
   pub values_all : (m : FinMap nat_cmp X) (made : List (ℕ × X)) → made ≡ entries m → map (λ e. e.1) made ≡ map (λ e. e.1) (entries (retain_keys m (λ w. true)))
   values_all m made e = ap (map (λ e. e.1)) (e ∙ sym (ap entries (retain_all m)))
 
-  module _ (m : FinMap nat_cmp X) (waiting made : List (ℕ × X)) (words : List ℕ) (i : ℕ) (d : ℕ) (e : waiting ≡ entries m) (below : i < length words) (so_far : made ≡ entries (retain_keys m (is_in (take i words)))) where
+  module _ (m : FinMap nat_cmp X) (waiting made : List (ℕ × X)) (words : List ℕ) (i : ℕ) (d : ℕ) (e : waiting ≡ entries m) (below : i < length words)
+      (so_far : made ≡ entries (retain_keys m (is_in (take i words)))) where
     longer : (next : ℕ) → next ≡ i + 1 → take i words ++ slice_index_or words i d ∷ [] ≡ take next words
     longer next above = sym (ap (λ n. take n words) above ∙ take_more words i d below)
 
@@ -137,7 +141,8 @@ module _ {X : Type 0} where
         ∙ ap entries (retain_more m (take i words) (slice_index_or words i d) v (sym (has ∙ lookup-get m (slice_index_or words i d) waiting e)))
         ∙ ap (λ ws. entries (retain_keys m (is_in ws))) (longer next above)
 
-    pub taken_same : (next : ℕ) → next ≡ i + 1 → None ≡ lookup (is_at (nat_cmp (slice_index_or words i d))) waiting → made ≡ entries (retain_keys m (is_in (take next words)))
+    pub taken_same : (next : ℕ) → next ≡ i + 1 → None ≡ lookup (is_at (nat_cmp (slice_index_or words i d))) waiting →
+        made ≡ entries (retain_keys m (is_in (take next words)))
     taken_same next above none =
         so_far
         ∙ ap entries (retain_same m (take i words) (slice_index_or words i d) (sym (none ∙ lookup-get m (slice_index_or words i d) waiting e)))
@@ -145,16 +150,20 @@ module _ {X : Type 0} where
 
 -- ---- the players, from the last to the first
 
-pub waiting_start : {O : Type 0} (players : List (Player O)) (made : List (ℕ × Entry)) → made ≡ [] → made ≡ entries (from_entries {R = nat_cmp} (waiting_of (drop (length players) players)))
+pub waiting_start : {O : Type 0} (players : List (Player O)) (made : List (ℕ × Entry)) → made ≡ [] →
+    made ≡ entries (from_entries {R = nat_cmp} (waiting_of (drop (length players) players)))
 waiting_start players made e = e ∙ sym (ap (λ ps. entries (from_entries {R = nat_cmp} (waiting_of ps))) (drop-length players) ∙ entries-empty)
 
-pub waiting_step : {O : Type 0} (players : List (Player O)) (made later : List (ℕ × Entry)) (i next : ℕ) (d : Player O) (w : Waiting) → i < length players → next ≡ i + 1
+pub waiting_step : {O : Type 0} (players : List (Player O)) (made later : List (ℕ × Entry)) (i next : ℕ) (d : Player O) (w : Waiting) → i < length players →
+    next ≡ i + 1
     → (slice_index_or players i d).waiting ≡ Some w
     → made ≡ entries (from_entries {R = nat_cmp} (waiting_of (drop next players)))
     → later ≡ insert_entry nat_cmp made w.word w.entry
     → later ≡ entries (from_entries {R = nat_cmp} (waiting_of (drop i players)))
 waiting_step players made later i next d w below above has so_far is =
     let rest = drop next players in
-    let split : drop i players ≡ slice_index_or players i d ∷ rest = drop_more players i d below ∙ ap (λ n. slice_index_or players i d ∷ drop n players) (sym above) in
+    let split : drop i players ≡ slice_index_or players i d ∷ rest = drop_more players i d below
+    ∙ ap (λ n. slice_index_or players i d ∷ drop n players) (sym above) in
     entries_put (from_entries {R = nat_cmp} (waiting_of rest)) made later w.word w.entry so_far is
-    ∙ sym (ap (λ ps. entries (from_entries {R = nat_cmp} (waiting_of ps))) split ∙ ap (λ o. entries (from_entries {R = nat_cmp} (pairs_waiting o ++ waiting_of rest))) has)
+    ∙ sym (ap (λ ps. entries (from_entries {R = nat_cmp} (waiting_of ps))) split
+    ∙ ap (λ o. entries (from_entries {R = nat_cmp} (pairs_waiting o ++ waiting_of rest))) has)

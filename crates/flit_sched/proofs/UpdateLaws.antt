@@ -20,11 +20,11 @@ numbers_joined name xs ys =
     ap (map (λ e. e.number)) (filter-append (λ e. eqb e.worker name) xs ys)
     ∙ map-append (λ e. e.number) (filter (λ e. eqb e.worker name) xs) (filter (λ e. eqb e.worker name) ys)
 
-module _ {S Op : Type 0} (meaning : Meaning S Op) (l : Lawful meaning) (s : S) (M : Moment Op) (holds : meaning.holds s M) where
+module _ {Op : Type 0} (meaning : Meaning Op) (l : Lawful meaning) (M : Moment Op) (holds : meaning.holds M) where
   pub settled_updates : AllByRecursion (λ e. is_update e ≡ true) M.progress.settled
-  settled_updates = all_left (λ e. is_update e ≡ true) M.progress.settled (waiting_updates M.progress) (l.updates s M holds)
+  settled_updates = all_left (λ e. is_update e ≡ true) M.progress.settled (waiting_updates M.progress) (l.entries M holds).updates
 
   pub settled_rise : (name : ℕ) → IsRisingFrom 0 (numbers_of name M.progress.settled)
   settled_rise name =
       rising_front 0 (numbers_of name M.progress.settled) (numbers_of name (waiting_updates M.progress))
-      (subst (IsRisingFrom 0) (numbers_joined name M.progress.settled (waiting_updates M.progress)) (l.rises s M name holds))
+      (subst (IsRisingFrom 0) (numbers_joined name M.progress.settled (waiting_updates M.progress)) ((l.entries M holds).rises name))

@@ -9,7 +9,7 @@ use Rattle.std.specs.FinMap.{find, get-insert, get-remove, get-from_entries, sam
 use Rattle.flit_model.specs.declared.calls.Entry.{Entry}
 use Rattle.flit_structure.proofs.Names.{all_left, all_right, all_both, all_at}
 use Rattle.flit_sched.specs.declared.players.Player.{Player}
-use Rattle.flit_sched.specs.Kept.{waiting_of, pairs_waiting, IsOnce}
+use Rattle.flit_sched.specs.Kept.{waiting_of, pairs_waiting, AreApart}
 
 pub no_some : {X : Type 0} (x : X) → None ≡ Some x → ⊥
 no_some x e = cc
@@ -57,13 +57,15 @@ comes w e vs ws h = same_map nat_cmp_total nat_cmp-IsAntisymmetric _ _ (λ q. by
         get_made (vs ++ (w, e) ∷ ws) q
         ∙ find_skip q vs ((w, e) ∷ ws) (subst (λ x. NoneIn x vs) (sym same) h)
         ∙ find_here q w e ws same
-        ∙ sym (get-insert nat_cmp_total (fin.from_entries {R = nat_cmp} (vs ++ ws)) w e q ∙ ap (λ b. cond b (Some e) (fin.get (fin.from_entries {R = nat_cmp} (vs ++ ws)) q)) (tied q w same))
+        ∙ sym (get-insert nat_cmp_total (fin.from_entries {R = nat_cmp} (vs ++ ws)) w e q
+        ∙ ap (λ b. cond b (Some e) (fin.get (fin.from_entries {R = nat_cmp} (vs ++ ws)) q)) (tied q w same))
     by_test q false is =
         let apart : q ≢ w = λ x. false≢true (sym is ∙ eq-eqb q w x) in
         get_made (vs ++ (w, e) ∷ ws) q
         ∙ find_other q w e vs ws apart
         ∙ sym (get_made (vs ++ ws) q)
-        ∙ sym (get-insert nat_cmp_total (fin.from_entries {R = nat_cmp} (vs ++ ws)) w e q ∙ ap (λ b. cond b (Some e) (fin.get (fin.from_entries {R = nat_cmp} (vs ++ ws)) q)) (not_tied q w apart))
+        ∙ sym (get-insert nat_cmp_total (fin.from_entries {R = nat_cmp} (vs ++ ws)) w e q
+        ∙ ap (λ b. cond b (Some e) (fin.get (fin.from_entries {R = nat_cmp} (vs ++ ws)) q)) (not_tied q w apart))
 
 -- an entry that goes, at a word that has it alone
 pub goes : (w : ℕ) (e : Entry) (vs ws : List (ℕ × Entry)) → NoneIn w vs → NoneIn w ws →
@@ -76,32 +78,38 @@ goes w e vs ws h k = same_map nat_cmp_total nat_cmp-IsAntisymmetric _ _ (λ q. b
         let same : q ≡ w = eqb-true q w is in
         get_made (vs ++ ws) q
         ∙ find_none q (vs ++ ws) (subst (λ x. NoneIn x (vs ++ ws)) (sym same) (all_both (λ v. v.0 ≢ w) vs ws h k))
-        ∙ sym (get-remove nat_cmp_total (fin.from_entries {R = nat_cmp} (vs ++ (w, e) ∷ ws)) w q ∙ ap (λ b. cond b None (fin.get (fin.from_entries {R = nat_cmp} (vs ++ (w, e) ∷ ws)) q)) (tied q w same))
+        ∙ sym (get-remove nat_cmp_total (fin.from_entries {R = nat_cmp} (vs ++ (w, e) ∷ ws)) w q
+        ∙ ap (λ b. cond b None (fin.get (fin.from_entries {R = nat_cmp} (vs ++ (w, e) ∷ ws)) q)) (tied q w same))
     by_test q false is =
         let apart : q ≢ w = λ x. false≢true (sym is ∙ eq-eqb q w x) in
         get_made (vs ++ ws) q
         ∙ sym (find_other q w e vs ws apart)
         ∙ sym (get_made (vs ++ (w, e) ∷ ws) q)
-        ∙ sym (get-remove nat_cmp_total (fin.from_entries {R = nat_cmp} (vs ++ (w, e) ∷ ws)) w q ∙ ap (λ b. cond b None (fin.get (fin.from_entries {R = nat_cmp} (vs ++ (w, e) ∷ ws)) q)) (not_tied q w apart))
+        ∙ sym (get-remove nat_cmp_total (fin.from_entries {R = nat_cmp} (vs ++ (w, e) ∷ ws)) w q
+        ∙ ap (λ b. cond b None (fin.get (fin.from_entries {R = nat_cmp} (vs ++ (w, e) ∷ ws)) q)) (not_tied q w apart))
 
 -- what waits of some workers and then of others
-pub waiting_joined : {Op : Type 0} (a b : List (Player Op)) → waiting_of (a ++ b) ≡ waiting_of a ++ waiting_of b
+pub waiting_joined : {W : Type 0} (a b : List (Player W)) → waiting_of (a ++ b) ≡ waiting_of a ++ waiting_of b
 waiting_joined [] b = refl
-waiting_joined (p ∷ a) b = ap (λ ws. pairs_waiting p.waiting ++ ws) (waiting_joined a b) ∙ sym (append_assoc (pairs_waiting p.waiting) (waiting_of a) (waiting_of b))
+waiting_joined (p ∷ a) b = ap (λ ws. pairs_waiting p.waiting ++ ws) (waiting_joined a b)
+    ∙ sym (append_assoc (pairs_waiting p.waiting) (waiting_of a) (waiting_of b))
 
 -- a word that stands once in a list stands nowhere else
-pub once_here : (vs ws : List (ℕ × Entry)) (v : ℕ × Entry) → IsOnce (vs ++ v ∷ ws) → NoneIn v.0 vs × NoneIn v.0 ws
+pub once_here : (vs ws : List (ℕ × Entry)) (v : ℕ × Entry) → AreApart (vs ++ v ∷ ws) → NoneIn v.0 vs × NoneIn v.0 ws
 once_here [] ws v h = (tt, h.0)
 once_here (x ∷ vs) ws v h =
     let r = once_here vs ws v h.1 in
     ((λ e. all_at (λ y. y.0 ≢ x.0) vs ws v h.0 (sym e), r.0), r.1)
 
-pub once_without : (vs ws : List (ℕ × Entry)) (v : ℕ × Entry) → IsOnce (vs ++ v ∷ ws) → IsOnce (vs ++ ws)
+pub once_without : (vs ws : List (ℕ × Entry)) (v : ℕ × Entry) → AreApart (vs ++ v ∷ ws) → AreApart (vs ++ ws)
 once_without [] ws v h = h.1
 once_without (x ∷ vs) ws v h =
     (all_both (λ y. y.0 ≢ x.0) vs ws (all_left (λ y. y.0 ≢ x.0) vs (v ∷ ws) h.0) (all_right (λ y. y.0 ≢ x.0) vs (v ∷ ws) h.0).1, once_without vs ws v h.1)
 
-pub once_with : (vs ws : List (ℕ × Entry)) (v : ℕ × Entry) → NoneIn v.0 vs → NoneIn v.0 ws → IsOnce (vs ++ ws) → IsOnce (vs ++ v ∷ ws)
+pub once_with : (vs ws : List (ℕ × Entry)) (v : ℕ × Entry) → NoneIn v.0 vs → NoneIn v.0 ws → AreApart (vs ++ ws) → AreApart (vs ++ v ∷ ws)
 once_with [] ws v h k once = (k, once)
-once_with (x ∷ vs) ws v h k once =
-    (all_both (λ y. y.0 ≢ x.0) vs (v ∷ ws) (all_left (λ y. y.0 ≢ x.0) vs ws once.0) ((λ e. h.0 (sym e)), all_right (λ y. y.0 ≢ x.0) vs ws once.0), once_with vs ws v h.1 k once.1)
+once_with (x ∷ vs) ws v h k once = (
+  all_both (λ y. y.0 ≢ x.0) vs (v ∷ ws) (all_left (λ y. y.0 ≢ x.0) vs ws once.0) ((λ e. h.0 (sym e)), all_right (λ y. y.0 ≢ x.0) vs ws once.0),
+  once_with vs
+      ws v h.1 k once.1,
+)

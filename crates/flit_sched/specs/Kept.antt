@@ -15,8 +15,9 @@ use Rattle.flit_model.specs.declared.events.Event.{Event}
 use Rattle.flit_model.specs.declared.events.Event.TheVariants.{Load, ReadTag, Raise, Lower, Exchange, Persist, Store, Draw}
 use Rattle.flit_pv.specs.Evicts.{evict_asked}
 use Rattle.flit_structure.specs.declared.workers.Doing.{Doing}
+use Rattle.flit_structure.specs.declared.workers.Worker.{Worker}
 use Rattle.flit_structure.specs.declared.workers.Doing.TheVariants.{Idle, Busy, Evicting}
-use Rattle.flit_structure.specs.Meanings.{Meaning, key_of}
+use Rattle.flit_structure.specs.Meanings.{Meaning, key_of, replied}
 use Rattle.flit_sched.specs.declared.players.Player.{Player}
 use Rattle.flit_sched.specs.declared.players.Waiting.{Waiting}
 use Rattle.flit_sched.specs.Runs.{Part, Run, moment_of}
@@ -32,14 +33,14 @@ abbrev pub pairs_waiting : Option Waiting → List (ℕ × Entry)
 pairs_waiting None = []
 pairs_waiting (Some w) = (w.word, w.entry) ∷ []
 
-abbrev pub waiting_of : {Op : Type 0} → List (Player Op) → List (ℕ × Entry)
+abbrev pub waiting_of : {W : Type 0} → List (Player W) → List (ℕ × Entry)
 waiting_of [] = []
 waiting_of (p ∷ ps) = pairs_waiting p.waiting ++ waiting_of ps
 
-abbrev pub progress_of : {Op : Type 0} → List Entry → List (Player Op) → Progress
+abbrev pub progress_of : {W : Type 0} → List Entry → List (Player W) → Progress
 progress_of settled players = record { settled = settled; waiting = map_of.from_entries (waiting_of players) }
 
-abbrev pub part_of : {Op : Type 0} → Player Op → Part Op
+abbrev pub part_of : {Op : Type 0} → Player (Worker Op) → Part Op
 part_of p = record {
   worker = p.worker;
   items = p.work.items.items;
@@ -49,9 +50,8 @@ part_of p = record {
 }
 
 -- the run that the players make
-abbrev pub run_of : {S Op : Type 0} → S → Map → State → List Entry → List Placed → List (Player Op) → Run S Op
-run_of s content m settled placed players = record {
-  structure = s;
+abbrev pub run_of : {Op : Type 0} → Map → State → List Entry → List Placed → List (Player (Worker Op)) → Run Op
+run_of content m settled placed players = record {
   content = content;
   state = m;
   progress = progress_of settled players;
@@ -66,27 +66,27 @@ one_if_busy (Busy op call begun) = 1
 one_if_busy (Evicting evict) = 0
 
 -- how many items the players have, and how many of these are over
-abbrev pub items_of : {Op : Type 0} → List (Player Op) → ℕ
+abbrev pub items_of : {W : Type 0} → List (Player W) → ℕ
 items_of [] = 0
 items_of (p ∷ ps) = length p.work.items.items + items_of ps
 
-abbrev pub over_of : {Op : Type 0} → List (Player Op) → ℕ
+abbrev pub over_of : {W : Type 0} → List (Player W) → ℕ
 over_of [] = 0
 over_of (p ∷ ps) = p.over + over_of ps
 
-module _ {S Op : Type 0} (meaning : Meaning S Op) (s : S) where
+module _ {Op : Type 0} (meaning : Meaning Op) where
   -- a worker that isn't idle is at its next item, and asks for an event; of a call it is noted what its key had in the
   -- map when it made its first event
   abbrev pub IsAtItem : Map → List Entry → Option Item → Option ℕ → Doing Op → Type 0
   IsAtItem content settled item noted (Idle hand) = Unit {0}
   IsAtItem content settled item noted (Busy op call None) = ⊥
-  IsAtItem content settled item noted (Busy op call (Some n)) = (item ≡ Some (Call_item call)) × (meaning.replied s op ≡ None)
+  IsAtItem content settled item noted (Busy op call (Some n)) = (item ≡ Some (Call_item call)) × (replied meaning op ≡ None)
       × (n ≤ length settled) × (noted ≡ map_of.get (map_after_all content (take n settled)) (key_of call))
   IsAtItem content settled item noted (Evicting evict) = (word : ℕ) × (item ≡ Some (Evict_item word)) × IsSome (evict_asked evict)
 
-  pub record IsKeptPlayer (content : Map) (settled : List Entry) (keys : List ℕ) (name : ℕ) (p : Player Op) : Type 0 where
+  pub record IsKeptPlayer (content : Map) (settled : List Entry) (keys : List ℕ) (name : ℕ) (p : Player (Worker Op)) : Type 0 where
     pub named : p.worker.name ≡ name
-    pub items : AllByRecursion (IsRightItem (meaning.layout s)) p.work.items.items
+    pub items : AllByRecursion (IsRightItem meaning.layout) p.work.items.items
     pub keyed : AllByRecursion (IsKeyed keys) p.work.items.items
     pub over : p.over ≤ length p.work.items.items
     pub outcomes : length p.outcomes.items ≡ length p.work.items.items
@@ -95,14 +95,14 @@ module _ {S Op : Type 0} (meaning : Meaning S Op) (s : S) where
     pub waits : AllByRecursion (λ w. (w.1.worker ≡ name) × Contains keys (key_of w.1.call)) (pairs_waiting p.waiting)
     pub at : IsAtItem content settled (slice_get p.work.items.items p.over) p.noted p.worker.doing
 
-  abbrev pub AreKeptFrom : Map → List Entry → List ℕ → ℕ → List (Player Op) → Type 0
+  abbrev pub AreKeptFrom : Map → List Entry → List ℕ → ℕ → List (Player (Worker Op)) → Type 0
   AreKeptFrom content settled keys name [] = Unit {0}
   AreKeptFrom content settled keys name (p ∷ ps) = IsKeptPlayer content settled keys name p × AreKeptFrom content settled keys (name + 1) ps
 
 -- no word stands twice among some pairs
-abbrev pub IsOnce : List (ℕ × Entry) → Type 0
-IsOnce [] = Unit {0}
-IsOnce (w ∷ ws) = AllByRecursion (λ v. v.0 ≢ w.0) ws × IsOnce ws
+abbrev pub AreApart : List (ℕ × Entry) → Type 0
+AreApart [] = Unit {0}
+AreApart (w ∷ ws) = AllByRecursion (λ v. v.0 ≢ w.0) ws × AreApart ws
 
 -- each word and shadow has 64 bits
 abbrev pub AllRaw : List ℕ → Type 0
@@ -125,15 +125,15 @@ pub record IsBook (keys : List ℕ) (values : List (Option ℕ)) (now : Map) : T
   pub same : length values ≡ length keys
   pub is : map (λ k. map_of.get now k) keys ≡ values
 
-module _ {S Op : Type 0} (meaning : Meaning S Op) where
-  pub record IsKept (r : Run S Op) (players : List (Player Op)) (keys : List ℕ) (values : List (Option ℕ)) (entries reads : ℕ) : Type 0 where
+module _ {Op : Type 0} (meaning : Meaning Op) where
+  pub record IsKept (r : Run Op) (players : List (Player (Worker Op))) (keys : List ℕ) (values : List (Option ℕ)) (entries reads : ℕ) : Type 0 where
     pub words : List ℕ
     pub free : List ℕ
-    pub holds : meaning.holds r.structure (moment_of r words free)
-    pub workers : length players ≡ (meaning.layout r.structure).workers
-    pub each : AreKeptFrom meaning r.structure r.content r.progress.settled keys 1 players
+    pub holds : meaning.holds (moment_of r words free)
+    pub workers : length players ≡ meaning.layout.workers
+    pub each : AreKeptFrom meaning r.content r.progress.settled keys 1 players
     -- no two values ahead are at one word
-    pub apart : IsOnce (waiting_of players)
+    pub apart : AreApart (waiting_of players)
     pub words_raw : AllRaw r.state.words
     pub shadows_raw : AllRaw r.state.shadows
     pub book : IsBook keys values (map_after_all r.content r.progress.settled)

@@ -8,3 +8,4 @@ pub mod Histories
 pub mod Books
 pub mod Settled
 pub mod Starting
+pub mod Seats

@@ -13,7 +13,7 @@ use Rattle.flit_model.specs.declared.calls.Item.TheVariants.{Call as Call_item, 
 use Rattle.flit_model.specs.declared.calls.Outcome.{Outcome}
 use Rattle.flit_model.specs.declared.calls.Outcome.TheVariants.{Stopped}
 use Rattle.flit_model.specs.declared.calls.Work.{Work}
-use Rattle.flit_recover.specs.declared.found.Recovered.{Recovered}
+use Rattle.flit_model.specs.declared.found.Recovered.{Recovered}
 use Rattle.flit_structure.specs.Moments.{Opening, hired}
 use Rattle.flit_structure.specs.Meanings.{Meaning, IsServed}
 use Rattle.flit_sched.specs.Runs.{Part, Run}
@@ -75,11 +75,10 @@ first_parts name [] = []
 first_parts name (w ∷ ws) = first_part name w ∷ first_parts (name + 1) ws
 
 -- the run before its first turn
-abbrev pub opened_run : {S Op : Type 0} → Meaning S Op → S → Recovered → List Work → Run S Op
-opened_run meaning s start works = record {
-  structure = s;
+abbrev pub opened_run : {Op : Type 0} → Meaning Op → Recovered → List Work → Run Op
+opened_run meaning start works = record {
   content = content_of start.keys.items start.values.items;
-  state = state_from (meaning.layout s) start.image.words.items;
+  state = state_from meaning.layout start.image.words.items;
   progress = nothing_made;
   placed = [];
   parts = first_parts 1 works;

@@ -18,21 +18,25 @@ pub record Part (Op : Type 0) : Type 0 where
   pub over : ℕ
   pub outcomes : List (Option Outcome)
 
--- a run of a structure from a map
-pub record Run (S Op : Type 0) : Type 0 where
-  pub structure : S
+-- a run from a map
+pub record Run (Op : Type 0) : Type 0 where
   pub content : Map
   pub state : State
   pub progress : Progress
   pub placed : List Placed
   pub parts : List (Part Op)
 
+-- a structure, and a run of it
+pub record Seen (S Op : Type 0) : Type 0 where
+  pub structure : S
+  pub run : Run Op
+
 abbrev pub workers_of : {Op : Type 0} → List (Part Op) → List (Worker Op)
 workers_of parts = map (λ p. p.worker) parts
 
-module _ {S Op : Type 0} where
+module _ {Op : Type 0} where
   -- the moment of a run that was opened at these words with these free rows
-  abbrev pub moment_of : Run S Op → List ℕ → List ℕ → Moment Op
+  abbrev pub moment_of : Run Op → List ℕ → List ℕ → Moment Op
   moment_of r words free = record {
     opening = record { words = words; content = r.content; free = free };
     state = r.state;
@@ -41,6 +45,6 @@ module _ {S Op : Type 0} where
   }
 
   -- a worker of the run, by its number from 1, and those before and behind it
-  pub record IsPart (r : Run S Op) (worker : ℕ) (before : List (Part Op)) (p : Part Op) (behind : List (Part Op)) : Type 0 where
+  pub record IsPart (r : Run Op) (worker : ℕ) (before : List (Part Op)) (p : Part Op) (behind : List (Part Op)) : Type 0 where
     pub is : r.parts ≡ before ++ p ∷ behind
     pub number : worker ≡ length before + 1

@@ -13,9 +13,9 @@ use Rattle.flit_structure.specs.declared.workers.Worker.{Worker}
 use Rattle.flit_structure.specs.Meanings.{Meaning, MayStart, key_of}
 
 -- a worker that is idle may begin its next item
-abbrev pub MayBegin : {S Op : Type 0} → Meaning S Op → S → List ℕ → Worker Op → Option Item → Type 0
-MayBegin {S} {Op} meaning s keys u item = (hand : Hand) (call : Call) → u.doing ≡ Idle hand → item ≡ Some (Call_item call) →
-    MayStart (meaning.layout s) hand call × (u.number < 4294967295) × Contains keys (key_of call)
+abbrev pub MayBegin : {Op : Type 0} → Meaning Op → List ℕ → Worker Op → Option Item → Type 0
+MayBegin {Op} meaning keys u item = (hand : Hand) (call : Call) → u.doing ≡ Idle hand → item ≡ Some (Call_item call) →
+    MayStart meaning.layout hand call × (u.number < 4294967295) × Contains keys (key_of call)
 
 -- what the map has at the key of a call that begins is noted
 abbrev pub IsNotedOf : List ℕ → List (Option ℕ) → Option Item → Option ℕ → Option ℕ → Type 0

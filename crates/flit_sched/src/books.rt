@@ -39,7 +39,8 @@ pub(crate) fn value_at(keys: &[u32], values: &[Option<u32>], key: u32) -> Option
     requires rising { IsStrictlyIncreasing keys.now }
     requires has { Contains keys.now key }
     requires same { length values.now ≡ length keys.now }
-    ensures { (now : Map) → map (λ k. map_of.get now k) keys.now ≡ values.now → result ≡ map_of.get now key }
+    ensures { (now : Map) → map (λ k. map_of.get now k) keys.now ≡ values.now →
+        result ≡ map_of.get now key }
 {
     match keys.binary_search(&key) {
         Ok(at) => values[at],
@@ -52,7 +53,8 @@ pub(crate) fn change(keys: &[u32], values: &mut Vec<Option<u32>>, call: Call)
     requires rising { IsStrictlyIncreasing keys.now }
     requires has { Contains keys.now (the_key_of call) }
     requires same { length values.old.items ≡ length keys.now }
-    ensures { (now : Map) → map (λ k. map_of.get now k) keys.now ≡ values.old.items → map (λ k. map_of.get (map_after now call) k) keys.now ≡ values.new.items }
+    ensures { (now : Map) → map (λ k. map_of.get now k) keys.now ≡ values.old.items →
+        map (λ k. map_of.get (map_after now call) k) keys.now ≡ values.new.items }
 {
     match keys.binary_search(&key_of(call)) {
         Ok(at) => values[at] = after_call(values[at], call),

@@ -33,9 +33,11 @@ fn push_reads_at(
     history: &mut Vec<Entry>,
 ) -> Result<usize, NoMemory>
     requires { start ≤ length reads.now }
-    ensures entries { OnOk result (history.new.items ≡ history.old.items ++ front_at position (drop start reads.now)) }
+    ensures entries { OnOk result (history.new.items ≡ history.old.items ++ front_at position
+        (drop start reads.now)) }
     ensures within { IfOk result (λ next. next ≤ length reads.now) }
-    ensures behind { IfOk result (λ next. drop next reads.now ≡ behind_front position (drop start reads.now)) }
+    ensures behind { IfOk result (λ next. drop next reads.now ≡ behind_front position
+        (drop start reads.now)) }
 {
     let mut next = start;
     while next < reads.len() && u64::from(reads[next].position) == position as u64 {
@@ -65,11 +67,12 @@ fn history_of_settled(
 }
 
 /// The updates that wait in values ahead, by word.
-fn waiting_updates<O>(
+fn waiting_updates<W>(
     alloc: Global,
-    players: &[Player<O>],
+    players: &[Player<W>],
 ) -> Result<BTreeMap<u32, Entry>, NoMemory>
-    ensures { IfOk result (λ m. m.entries ≡ map_of.entries (map_of.from_entries {R = nat_cmp} (waiting_of players.now))) }
+    ensures { IfOk result (λ m. m.entries ≡ map_of.entries
+        (map_of.from_entries {R = nat_cmp} (waiting_of players.now))) }
 {
     let mut updates = BTreeMap::new(alloc);
     let mut left = players.len();
@@ -88,7 +91,9 @@ fn waiting_at_words(
     updates: &BTreeMap<u32, Entry>,
     words: &[u32],
 ) -> Result<BTreeMap<u32, Entry>, NoMemory>
-    ensures { IfOk result (λ taken. (m : map_of.FinMap nat_cmp An_entry) → updates.now.entries ≡ map_of.entries m → taken.entries ≡ map_of.entries (map_of.retain_keys m (λ word. list_any (λ w. w == word) words.now))) }
+    ensures { IfOk result (λ taken. (m : map_of.FinMap nat_cmp An_entry) →
+        updates.now.entries ≡ map_of.entries m → taken.entries ≡ map_of.entries
+        (map_of.retain_keys m (λ word. list_any (λ w. w == word) words.now))) }
 {
     let mut taken = BTreeMap::new(alloc);
     for word in words {
@@ -100,12 +105,13 @@ fn waiting_at_words(
 }
 
 /// The updates of the values ahead that are taken, by word.
-fn updates_taken<O>(
+fn updates_taken<W>(
     alloc: Global,
-    players: &[Player<O>],
+    players: &[Player<W>],
     ahead: &Ahead,
 ) -> Result<BTreeMap<u32, Entry>, NoMemory>
-    ensures { IfOk result (λ taken. (settled : List An_entry) → values taken ≡ taken_updates (progress_of settled players.now) (picks_of ahead.now)) }
+    ensures { IfOk result (λ taken. (settled : List An_entry) →
+        values taken ≡ taken_updates (progress_of settled players.now) (picks_of ahead.now)) }
 {
     let updates = waiting_updates(alloc, players)?;
     match ahead {
@@ -123,14 +129,15 @@ fn in_order(alloc: Global, updates: BTreeMap<u32, Entry>) -> Result<Vec<Entry>, 
 }
 
 /// The settled updates with the reads, and behind them the updates of the values ahead that are taken.
-pub(crate) fn history_ahead<O>(
+pub(crate) fn history_ahead<W>(
     alloc: Global,
     settled: &[Entry],
     reads: &[Placed],
-    players: &[Player<O>],
+    players: &[Player<W>],
     ahead: &Ahead,
 ) -> Result<Vec<Entry>, NoMemory>
-    ensures { IfOk result (λ h. h.items ≡ history_of settled.now reads.now ++ taken_updates (progress_of settled.now players.now) (picks_of ahead.now)) }
+    ensures { IfOk result (λ h. h.items ≡ history_of settled.now reads.now ++ taken_updates
+        (progress_of settled.now players.now) (picks_of ahead.now)) }
 {
     let mut history = history_of_settled(alloc, settled, reads)?;
     let taken = in_order(alloc, updates_taken(alloc, players, ahead)?)?;

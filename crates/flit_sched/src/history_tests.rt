@@ -1,8 +1,6 @@
 use crate::histories::history_ahead;
 use crate::players::{Player, Waiting};
 use flit_model::{Ahead, Call, Entry, Placed, Reply, Work};
-use flit_pv::Hand;
-use flit_structure::{Doing, Worker};
 use std::alloc::Global;
 use std::test::Fail;
 
@@ -23,13 +21,9 @@ fn read_of(position: u32, worker: u32, number: u32) -> Placed {
 }
 
 // A worker whose update waits at a word.
-fn waits_at(alloc: Global, word: u32, entry: Entry) -> Player<u32> {
+fn waits_at(alloc: Global, word: u32, entry: Entry) -> Player<()> {
     Player {
-        worker: Worker {
-            name: 1,
-            number: 1,
-            doing: Doing::Idle(Hand::first(1)),
-        },
+        worker: (),
         work: Work {
             items: Vec::new(alloc),
             stop: None,

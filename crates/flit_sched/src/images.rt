@@ -41,7 +41,8 @@ fn all_or_none(
     requires size { length machine.now.words ≡ words }
     requires words_raw { AllRaw machine.now.words }
     requires shadows_raw { AllRaw machine.now.shadows }
-    ensures { IfOk result (λ image. image.items ≡ map (crash_word (λ w. takes) machine.now) (range_with_len 0 words)) }
+    ensures { IfOk result (λ image. image.items ≡ map (crash_word (λ w. takes) machine.now)
+        (range_with_len 0 words)) }
 {
     let mut image = Vec::with_capacity(alloc, words as usize)?;
     for word in 0..words {
@@ -55,8 +56,10 @@ fn take_ahead(machine: &Machine, words: u32, image: &mut Vec<u64>, chosen: &[u32
     requires size { length machine.now.words ≡ words }
     requires words_raw { AllRaw machine.now.words }
     requires shadows_raw { AllRaw machine.now.shadows }
-    requires none { image.old.items ≡ map (crash_word (λ w. false) machine.now) (range_with_len 0 words) }
-    ensures { image.new.items ≡ map (crash_word (λ w. list_any (λ v. v == w) chosen.now) machine.now) (range_with_len 0 words) }
+    requires none { image.old.items ≡ map (crash_word (λ w. false) machine.now)
+        (range_with_len 0 words) }
+    ensures { image.new.items ≡ map (crash_word (λ w. list_any (λ v. v == w) chosen.now)
+        machine.now) (range_with_len 0 words) }
 {
     for word in chosen {
         if *word < words {

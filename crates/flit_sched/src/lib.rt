@@ -13,6 +13,7 @@ mod opening_laws;
 mod players;
 mod positions;
 mod runs;
+mod seats;
 mod settling;
 mod starting;
 mod turning;

@@ -3,13 +3,13 @@ ghost use Rattle.std.specs.List.{AllByRecursion, Contains};
 ghost use Rattle.std.specs.FinMap as map_of;
 ghost use Rattle.std.specs.List.Sorted.{IsStrictlyIncreasing};
 ghost use Rattle.flit_structure.specs.Meanings.{key_of as the_key_of};
-ghost use Rattle.flit_sched.specs.Openings.{content_of, first_outcome, first_parts, item_count};
-ghost use Rattle.flit_sched.specs.Kept.{AllRaw, IsKeyed, part_of};
+ghost use Rattle.flit_sched.specs.Openings.{content_of, first_outcome, item_count};
+ghost use Rattle.flit_sched.specs.Kept.{AllRaw, IsKeyed};
+ghost use Rattle.flit_sched.specs.Seats.{AreHiredFrom};
 
 use crate::players::{Player, key_of};
+use crate::seats::{At, Seat};
 use flit_model::{Item, Outcome, Work};
-use flit_pv::Hand;
-use flit_structure::{Doing, Worker};
 use flit_words::NoMemory;
 use std::alloc::Global;
 
@@ -35,19 +35,21 @@ fn first_outcomes(alloc: Global, items: &[Item]) -> Result<Vec<Option<Outcome>>,
 }
 
 /// A worker that has done nothing, for each work.
-pub(crate) fn hire<O: Drop>(alloc: Global, works: Vec<Work>) -> Result<Vec<Player<O>>, NoMemory>
+pub(crate) fn hire<O: Drop>(
+    alloc: Global,
+    works: Vec<Work>,
+) -> Result<Vec<Player<Seat<O>>>, NoMemory>
     requires { length works.items ≤ 64 }
-    ensures parts { IfOk result (λ ps. map part_of ps.items ≡ first_parts 1 works.items) }
-    ensures none { IfOk result (λ ps. AllByRecursion (λ p. p.waiting ≡ None) ps.items) }
+    ensures { IfOk result (λ ps. AreHiredFrom 1 works.items ps.items) }
 {
     let mut players = Vec::with_capacity(alloc, works.len())?;
     let mut name = 1;
     for work in works {
         players.push(Player {
-            worker: Worker {
+            worker: Seat {
                 name,
                 number: 0,
-                doing: Doing::Idle(Hand::first(name)),
+                at: At::New,
             },
             left: work.stop,
             over: 0,
@@ -75,7 +77,8 @@ pub(crate) fn count_items(works: &[Work]) -> usize
 
 /// Puts the keys of the calls among some items behind others.
 fn push_keys(keys: &mut Vec<u32>, items: &[Item]) -> Result<(), NoMemory>
-    ensures { OnOk result ((more : List ℕ) × (keys.new.items ≡ keys.old.items ++ more) × AllByRecursion (IsKeyed more) items.now) }
+    ensures { OnOk result ((more : List ℕ) × (keys.new.items ≡ keys.old.items ++ more)
+        × AllByRecursion (IsKeyed more) items.now) }
 {
     for item in items {
         if let Item::Call(call) = item {
@@ -87,7 +90,8 @@ fn push_keys(keys: &mut Vec<u32>, items: &[Item]) -> Result<(), NoMemory>
 
 /// The keys of all calls.
 fn all_keys(alloc: Global, works: &[Work]) -> Result<Vec<u32>, NoMemory>
-    ensures { IfOk result (λ ks. AllByRecursion (λ w. AllByRecursion (IsKeyed ks.items) w.items.items) works.now) }
+    ensures { IfOk result (λ ks. AllByRecursion
+        (λ w. AllByRecursion (IsKeyed ks.items) w.items.items) works.now) }
 {
     let mut keys = Vec::new(alloc);
     for work in works {
@@ -99,7 +103,8 @@ fn all_keys(alloc: Global, works: &[Work]) -> Result<Vec<u32>, NoMemory>
 /// The keys of all calls, in order, each once.
 pub(crate) fn keys_of(alloc: Global, works: &[Work]) -> Result<Vec<u32>, NoMemory>
     ensures rising { IfOk result (λ ks. IsStrictlyIncreasing ks.items) }
-    ensures has { IfOk result (λ ks. AllByRecursion (λ w. AllByRecursion (IsKeyed ks.items) w.items.items) works.now) }
+    ensures has { IfOk result (λ ks. AllByRecursion
+        (λ w. AllByRecursion (IsKeyed ks.items) w.items.items) works.now) }
 {
     let mut keys = all_keys(alloc, works)?;
     keys.sort()?;
@@ -116,7 +121,8 @@ pub(crate) fn first_values(
 ) -> Result<Vec<Option<u32>>, NoMemory>
     requires rising { IsStrictlyIncreasing first_keys.now }
     requires same { length first_values.now ≡ length first_keys.now }
-    ensures { IfOk result (λ vs. map (λ k. map_of.get (content_of first_keys.now first_values.now) k) keys.now ≡ vs.items) }
+    ensures { IfOk result (λ vs. map (λ k. map_of.get (content_of first_keys.now first_values.now)
+        k) keys.now ≡ vs.items) }
 {
     let mut values = Vec::with_capacity(alloc, keys.len())?;
     for key in keys {

@@ -2,7 +2,6 @@ ghost use Rattle.std.specs.Prelude.{◌⊎◌, ◌↔◌, ◌≤◌, ◌≡◌, 
 ghost use Rattle.flit_structure.specs.Meanings.{key_of as the_key_of};
 
 use flit_model::{Call, Entry, Outcome, Work};
-use flit_structure::Worker;
 
 /// An update whose value is ahead at a word.
 #[derive(Clone, Copy, Debug, PartialEq, Eq)]
@@ -13,8 +12,8 @@ pub struct Waiting {
 
 /// A worker with its work, and how far it has come.
 #[derive(Drop)]
-pub struct Player<O> {
-    pub worker: Worker<O>,
+pub struct Player<W> {
+    pub worker: W,
     pub work: Work,
     /// How many events its stop leaves it.
     pub left: Option<u64>,
@@ -28,10 +27,11 @@ pub struct Player<O> {
     pub noted: Option<u32>,
 }
 
-impl<O> Player<O> {
+impl<W> Player<W> {
     /// Whether it has no item left, or has made as many events as its stop says.
     pub(crate) fn is_out(&self) -> bool
-        ensures { IsTrue result ↔ ((length self.now.work.items.items ≤ self.now.over) ⊎ (self.now.left ≡ Some 0)) }
+        ensures { IsTrue result ↔ ((length self.now.work.items.items ≤ self.now.over)
+            ⊎ (self.now.left ≡ Some 0)) }
     {
         self.over >= self.work.items.len() || self.left == Some(0)
     }

@@ -30,8 +30,12 @@ pub(crate) fn position(
     requires { first ≤ length updates.now }
     ensures from { first ≤ result }
     ensures within { result ≤ length updates.now }
-    ensures right { (content : Map) → noted ≡ map_of.get (map_after_all content (take first updates.now)) (the_key_of call) → result < length updates.now → IsReplyBehind content updates.now call reply result }
-    ensures least { (content : Map) (n : ℕ) → noted ≡ map_of.get (map_after_all content (take first updates.now)) (the_key_of call) → first ≤ n → n < result → ¬ (IsReplyBehind content updates.now call reply n) }
+    ensures right { (content : Map) → noted ≡ map_of.get
+        (map_after_all content (take first updates.now)) (the_key_of call) →
+        result < length updates.now → IsReplyBehind content updates.now call reply result }
+    ensures least { (content : Map) (n : ℕ) → noted ≡ map_of.get
+        (map_after_all content (take first updates.now)) (the_key_of call) → first ≤ n →
+        n < result → ¬ (IsReplyBehind content updates.now call reply n) }
 {
     let key = key_of(call);
     let mut value = noted;
@@ -59,7 +63,12 @@ pub(crate) fn place(
     requires small { length settled.now < 2 ^ 32 }
     requires room { vec_len placed.old < vec_capacity placed.old }
     ensures capacity { vec_capacity placed.old ≤ vec_capacity placed.new }
-    ensures placed { (content : Map) → noted ≡ map_of.get (map_after_all content (take first settled.now)) (the_key_of entry.call) → IsPlacedFrom first content settled.now entry → is_read entry ≡ true → (position : ℕ) × (placed.new.items ≡ placed.old.items ++ record { position = position; entry = entry } ∷ []) × IsLeastPlace content settled.now first (record { position = position; entry = entry }) }
+    ensures placed { (content : Map) → noted ≡ map_of.get
+        (map_after_all content (take first settled.now)) (the_key_of entry.call) →
+        IsPlacedFrom first content settled.now entry → is_read entry ≡ true → (position : ℕ)
+        × (placed.new.items ≡ placed.old.items ++ record { position = position; entry = entry }
+        ∷ []) × IsLeastPlace content settled.now first
+        (record { position = position; entry = entry }) }
 {
     let position = position(settled, first as usize, noted, entry.call, entry.reply) as u32;
     if placed.push(Placed { position, entry }).is_err() {

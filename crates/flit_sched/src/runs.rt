@@ -4,12 +4,11 @@ use crate::images::crash_words;
 use crate::opening::{are_raw, count_items, first_values, hire, keys_of};
 use crate::players::Player;
 use crate::positions::place;
+use crate::seats::Seat;
 use crate::settling::{settle, wait};
 use crate::starting::start_turn;
-use crate::turning::{effect, tally_of};
-use flit_image::Image;
-use flit_model::{Ahead, Entry, Event, Machine, Outcome, Placed, Tally, Work};
-use flit_recover::Recovered;
+use crate::turning::tally_of;
+use flit_model::{Ahead, Entry, Event, Image, Machine, Outcome, Placed, Recovered, Tally, Work};
 use flit_structure::Structure;
 use flit_words::NoMemory;
 use std::alloc::Global;
@@ -34,7 +33,9 @@ pub struct Sched<S: Structure> {
     machine: Machine,
     settled: Vec<Entry>,
     placed: Vec<Placed>,
-    players: Vec<Player<S::Op>>,
+    players: Vec<Player<Seat<S::Op>>>,
+    /// By word, the worker whose update waited there last; 0 where none has.
+    waiters: Vec<u8>,
     /// The keys of all calls, and what the map has at each after the settled updates.
     keys: Vec<u32>,
     values: Vec<Option<u32>>,
@@ -42,9 +43,9 @@ pub struct Sched<S: Structure> {
 
 impl<S: Structure> Model for Sched<S> {
     ghost use Rattle.std.specs.Prelude.{vec_capacity};
-    ghost use Rattle.flit_sched.specs.Runs.{Run};
+    ghost use Rattle.flit_sched.specs.Runs.{Seen};
 
-    ghost Value = { Run S S.Op };
+    ghost Value = { Seen S S.Op };
 
     ghost use Rattle.std.specs.Coded.{codes};
     ghost use Rattle.std.specs.FinMap as map_of_pairs;
@@ -52,30 +53,26 @@ impl<S: Structure> Model for Sched<S> {
     ghost coded = { Prim.hlevel (codes, map_of_pairs.code, S.code, S.Op.code) };
 
     ghost use Rattle.flit_sched.specs.Openings.{content_of};
-    ghost use Rattle.flit_sched.specs.Kept.{IsKept, run_of};
+    ghost use Rattle.flit_sched.specs.Seats.{IsHeld, run_by};
 
-    ghost view = { λ r. run_of r.structure (content_of r.first_keys.items r.first_values.items) r.machine r.settled.items r.placed.items r.players.items };
+    ghost view = { λ r. record { structure = r.structure; run = run_by (S.meaning r.structure) (content_of r.first_keys.items r.first_values.items) r.machine r.settled.items r.placed.items r.players.items } };
 
-    ghost invariant = { λ r. IsKept S.meaning (run_of r.structure (content_of r.first_keys.items r.first_values.items) r.machine r.settled.items r.placed.items r.players.items) r.players.items r.keys.items r.values.items (vec_capacity r.settled) (vec_capacity r.placed) };
+    ghost invariant = { λ r. IsHeld (S.meaning r.structure) (content_of r.first_keys.items r.first_values.items) r.machine r.settled.items r.placed.items r.players.items r.keys.items r.values.items r.waiters.items (vec_capacity r.settled) (vec_capacity r.placed) };
 }
 
 impl<S: Structure> Sched<S> {
-    ghost use Rattle.std.specs.Prelude.{◌≡◌, ◌≢◌, ℕ, true, Some, ◌+◌, ◌<◌, ◌≤◌, ◌∷◌, List, None, IfOk, IsNone, IsTrue, IsFalse, ◌↔◌, length, slice_get, slice_index_or};
+    ghost use Rattle.std.specs.Prelude.{◌≡◌, ℕ, true, Some, ◌+◌, ◌<◌, ◌≤◌, ◌∷◌, List, None, IfOk, IsTrue, IsFalse, ◌↔◌, length, slice_get, slice_index_or};
     ghost use Rattle.std.specs.List.{AllByRecursion};
     ghost use Rattle.flit_model.specs.CrashImages.{crash_image};
     ghost use Rattle.flit_model.specs.Histories.{IsRightAt, is_update};
     ghost use Rattle.flit_model.specs.Lists.{IsRisingFrom};
     ghost use Rattle.flit_model.specs.Maps.{IsLegal, map_after_all};
-    ghost use Rattle.flit_recover.specs.Copies.{IsImageOf};
-    ghost use Rattle.std.specs.FinMap as map_of_words;
-    ghost use Rattle.flit_model.specs.declared.calls.Entry.{Entry as An_entry};
+    ghost use Rattle.flit_model.specs.Recovery.{IsImageOf};
     ghost use Rattle.flit_structure.specs.Moments.{numbers_of};
-    ghost use Rattle.flit_structure.specs.Meanings.{key_of};
-    ghost use Rattle.flit_structure.specs.Lawful.{IsRecoverable, IsUnfinished, HasMap};
-    ghost use Rattle.flit_sched.specs.Runs.{Part, IsPart, workers_of};
+    ghost use Rattle.flit_structure.specs.Lawful.{IsRecoverable, HasMap};
     ghost use Rattle.flit_sched.specs.Openings.{opening_at, AreRight, IsBookOf, IsEvictAt, opened_run};
     ghost use Rattle.flit_sched.specs.Turns.{IsTurn, IsOut, AreRepliesRight, GoesDown, Alone, left_at, tally_in};
-    ghost use Rattle.flit_sched.specs.Views.{picks_of, updates_with, history_with, IsAtMoment};
+    ghost use Rattle.flit_sched.specs.Views.{HasWorker, OfWorker, picks_of, updates_with, history_with, IsAtMoment, AreAheadOf};
 
     /// A run that starts at what recovery found, with a work for each worker of the layout. Room for all entries and
     /// reads is taken here. The error is NoMemory alone.
@@ -85,14 +82,17 @@ impl<S: Structure> Sched<S> {
         start: &Recovered,
         work: Vec<Work>,
     ) -> Result<Sched<S>, NoMemory>
-        requires opens { S.meaning.opens structure (opening_at start.now) }
+        requires opens { (S.meaning structure).opens (opening_at start.now) }
         requires found { IsBookOf start.now }
-        requires right { AreRight (S.meaning.layout structure) work.items }
-        ensures { IfOk result (λ r. r ≡ opened_run S.meaning structure start.now work.items) }
+        requires right { AreRight (S.meaning structure).layout work.items }
+        ensures structure { IfOk result (λ r. r.structure ≡ structure) }
+        ensures run { IfOk result (λ r. r.run ≡ opened_run (S.meaning structure) start.now
+            work.items) }
     {
         let words = start.image.words.as_slice();
         are_raw(words);
-        let machine = Machine::of(alloc, structure.layout(), words)?;
+        let layout = *structure.layout();
+        let machine = Machine::of(alloc, &layout, words)?;
         let items = count_items(&work);
         let keys = keys_of(alloc, &work)?;
         let values = first_values(alloc, &start.keys, &start.values, &keys)?;
@@ -103,6 +103,7 @@ impl<S: Structure> Sched<S> {
             settled: Vec::with_capacity(alloc, items + work.len())?,
             placed: Vec::with_capacity(alloc, items)?,
             players: hire(alloc, work)?,
+            waiters: vec![in alloc; 0; layout.words() as usize]?,
             keys,
             values,
             structure,
@@ -114,10 +115,13 @@ impl<S: Structure> Sched<S> {
     /// Where the event gives a call its reply, what the reply says is so after it. By each event the worker comes nearer
     /// to the end of its item, or this is over.
     pub fn turn(&mut self, worker: u32) -> Turn
-        requires { (1 ≤ worker) × (worker ≤ length self.old.parts) }
-        ensures is { IsTurn S.meaning self.old worker result self.new }
-        ensures replies { AreRepliesRight S.meaning self.old worker result self.new }
-        ensures goes_down { GoesDown S.meaning self.old worker result self.new }
+        requires { HasWorker self.old.run worker }
+        ensures is { IsTurn (S.meaning self.old.structure) self.old.run worker result self.new.run }
+        ensures structure { self.new.structure ≡ self.old.structure }
+        ensures replies { AreRepliesRight (S.meaning self.old.structure) self.old.run worker result
+            self.new.run }
+        ensures goes_down { GoesDown (S.meaning self.old.structure) self.old.run worker result
+            self.new.run }
     {
         let at = worker as usize - 1;
         if self.players[at].is_out() {
@@ -126,11 +130,11 @@ impl<S: Structure> Sched<S> {
         let settled = self.settled.len() as u64;
         let player = &mut self.players[at];
         let event = start_turn(&self.structure, player, &self.keys, &self.values);
-        let entry = effect(&self.structure, &player.worker);
         let answer = self.machine.apply(event);
-        wait(player, event, answer, entry);
+        wait(&self.structure, player, &mut self.waiters, event, answer);
         settle(
             &mut self.players,
+            &self.waiters,
             &mut self.settled,
             &self.keys,
             &mut self.values,
@@ -154,8 +158,8 @@ impl<S: Structure> Sched<S> {
 
     /// How many items of a worker aren't over.
     fn items_left(&self, worker: u32) -> usize
-        requires { (1 ≤ worker) × (worker ≤ length self.now.parts) }
-        ensures { result ≡ left_at self.now worker }
+        requires { HasWorker self.now.run worker }
+        ensures { result ≡ left_at self.now.run worker }
     {
         let player = &self.players[worker as usize - 1];
         player.work.items.len() - player.over
@@ -163,11 +167,12 @@ impl<S: Structure> Sched<S> {
 
     /// Gives a worker turns until its item is over, or it is out. It answers whether an item is over.
     fn run_item(&mut self, worker: u32) -> bool
-        requires { (1 ≤ worker) × (worker ≤ length self.old.parts) }
-        ensures alone { Alone S.meaning worker self.old self.new }
-        ensures long { length self.new.parts ≡ length self.old.parts }
-        ensures fewer { IsTrue result → left_at self.new worker < left_at self.old worker }
-        ensures out { IsFalse result → (before : List (Part S.Op)) (p : Part S.Op) (behind : List (Part S.Op)) → IsPart self.new worker before p behind → IsOut p }
+        requires { HasWorker self.old.run worker }
+        ensures alone { Alone (S.meaning self.old.structure) worker self.old.run self.new.run }
+        ensures structure { self.new.structure ≡ self.old.structure }
+        ensures long { length self.new.run.parts ≡ length self.old.run.parts }
+        ensures fewer { IsTrue result → left_at self.new.run worker < left_at self.old.run worker }
+        ensures out { IsFalse result → OfWorker self.new.run worker IsOut }
     {
         let left = self.items_left(worker);
         loop {
@@ -183,9 +188,10 @@ impl<S: Structure> Sched<S> {
     /// Gives a worker turns, and nobody else, until it has no item left or has made as many events as its stop says.
     /// It comes to that: a worker that runs alone ends.
     pub fn run_alone(&mut self, worker: u32)
-        requires { (1 ≤ worker) × (worker ≤ length self.old.parts) }
-        ensures alone { Alone S.meaning worker self.old self.new }
-        ensures out { (before : List (Part S.Op)) (p : Part S.Op) (behind : List (Part S.Op)) → IsPart self.new worker before p behind → IsOut p }
+        requires { HasWorker self.old.run worker }
+        ensures alone { Alone (S.meaning self.old.structure) worker self.old.run self.new.run }
+        ensures structure { self.new.structure ≡ self.old.structure }
+        ensures out { OfWorker self.new.run worker IsOut }
     {
         while self.run_item(worker) {}
     }
@@ -195,11 +201,13 @@ impl<S: Structure> Sched<S> {
     /// They are legal from the map at the start. The shadows are a lawful image, whose map is the map after them. Each
     /// call has at most one, and those of one worker stand in the order of its calls.
     pub fn updates(&self) -> &[Entry]
-        ensures is { result.now ≡ self.now.progress.settled }
-        ensures legal { IsLegal self.now.content self.now.progress.settled }
-        ensures shadows { HasMap (S.meaning.layout self.now.structure) self.now.state.shadows (map_after_all self.now.content self.now.progress.settled) }
-        ensures updates { AllByRecursion (λ e. is_update e ≡ true) self.now.progress.settled }
-        ensures rises { (name : ℕ) → IsRisingFrom 0 (numbers_of name self.now.progress.settled) }
+        ensures is { result.now ≡ self.now.run.progress.settled }
+        ensures legal { IsLegal self.now.run.content self.now.run.progress.settled }
+        ensures shadows { HasMap (S.meaning self.now.structure).layout self.now.run.state.shadows
+            (map_after_all self.now.run.content self.now.run.progress.settled) }
+        ensures updates { AllByRecursion (λ e. is_update e ≡ true) self.now.run.progress.settled }
+        ensures rises { (name : ℕ) → IsRisingFrom 0
+            (numbers_of name self.now.run.progress.settled) }
     {
         self.settled.as_slice()
     }
@@ -207,26 +215,30 @@ impl<S: Structure> Sched<S> {
     /// The completed reads with their positions, in the order in which they were completed.
     /// Each is a read, and its reply is right at its position.
     pub fn placed(&self) -> &[Placed]
-        ensures is { result.now ≡ self.now.placed }
-        ensures right { AllByRecursion (IsRightAt self.now.content self.now.progress.settled) self.now.placed }
+        ensures is { result.now ≡ self.now.run.placed }
+        ensures right { AllByRecursion (IsRightAt self.now.run.content
+            self.now.run.progress.settled) self.now.run.placed }
     {
         self.placed.as_slice()
     }
 
     /// What became of a worker's item, counted from 0. None comes exactly where the item is an Evict.
     pub fn outcome(&self, worker: u32, item: u32) -> Option<Outcome>
-        requires worker { (1 ≤ worker) × (worker ≤ length self.now.parts) }
-        requires item { (before : List (Part S.Op)) (p : Part S.Op) (behind : List (Part S.Op)) → IsPart self.now worker before p behind → item < length p.items }
-        ensures is { (before : List (Part S.Op)) (p : Part S.Op) (behind : List (Part S.Op)) → IsPart self.now worker before p behind → result ≡ slice_index_or p.outcomes item None }
-        ensures none { (before : List (Part S.Op)) (p : Part S.Op) (behind : List (Part S.Op)) → IsPart self.now worker before p behind → (result ≡ None) ↔ IsEvictAt p.items item }
+        requires worker { HasWorker self.now.run worker }
+        requires item { OfWorker self.now.run worker (λ p. item < length p.items) }
+        ensures is { OfWorker self.now.run worker
+            (λ p. result ≡ slice_index_or p.outcomes item None) }
+        ensures none { OfWorker self.now.run worker
+            (λ p. (result ≡ None) ↔ IsEvictAt p.items item) }
     {
         self.players[worker as usize - 1].outcomes[item as usize]
     }
 
     /// A worker's tally.
     pub fn tally(&self, worker: u32) -> Tally
-        requires { (1 ≤ worker) × (worker ≤ length self.now.parts) }
-        ensures { (before : List (Part S.Op)) (p : Part S.Op) (behind : List (Part S.Op)) → IsPart self.now worker before p behind → result ≡ tally_in S.meaning self.now.structure p.worker.doing }
+        requires { HasWorker self.now.run worker }
+        ensures { OfWorker self.now.run worker (λ p. result ≡ tally_in
+            (S.meaning self.now.structure) p.worker.doing) }
     {
         tally_of(&self.structure, &self.players[worker as usize - 1].worker)
     }
@@ -234,13 +246,13 @@ impl<S: Structure> Sched<S> {
     /// The image that a crash leaves at this moment: the shadows, with the value ahead of each word that is named and
     /// has one. The error is NoMemory alone.
     pub fn image(&self, alloc: Global, ahead: &Ahead) -> Result<Image, NoMemory>
-        ensures shape { IfOk result (λ i. IsImageOf (S.meaning.layout self.now.structure) i) }
-        ensures words { IfOk result (λ i. i.words.items ≡ crash_image (picks_of ahead.now) self.now.state) }
-        ensures recovers { IfOk result (λ i. IsRecoverable (S.meaning.layout self.now.structure) self.now.content i.words.items (updates_with self.now (picks_of ahead.now))) }
-        ensures moment { IsAtMoment S.meaning self.now }
-        ensures unfinished { (word : ℕ) (e : An_entry) → map_of_words.get self.now.progress.waiting word ≡ Some e → IsUnfinished S.meaning self.now.structure (workers_of self.now.parts) e }
-        ensures one_each { (v w : ℕ) (d e : An_entry) → map_of_words.get self.now.progress.waiting v ≡ Some d → map_of_words.get self.now.progress.waiting w ≡ Some e → d.worker ≡ e.worker → v ≡ w }
-        ensures keys { (v w : ℕ) (d e : An_entry) → v ≢ w → map_of_words.get self.now.progress.waiting v ≡ Some d → map_of_words.get self.now.progress.waiting w ≡ Some e → key_of d.call ≢ key_of e.call }
+        ensures shape { IfOk result (λ i. IsImageOf (S.meaning self.now.structure).layout i) }
+        ensures words { IfOk result (λ i. i.words.items ≡ crash_image (picks_of ahead.now)
+            self.now.run.state) }
+        ensures recovers { IfOk result (λ i. IsRecoverable (S.meaning self.now.structure).layout
+            self.now.run.content i.words.items (updates_with self.now.run (picks_of ahead.now))) }
+        ensures moment { IsAtMoment (S.meaning self.now.structure) self.now.run }
+        ensures ahead { AreAheadOf (S.meaning self.now.structure) self.now.run }
     {
         let layout = *self.structure.layout();
         Ok(Image {
@@ -258,9 +270,11 @@ impl<S: Structure> Sched<S> {
     ///
     /// It is legal from the map at the start, and leaves the map that recovery finds in this image.
     pub fn history(&self, alloc: Global, ahead: &Ahead) -> Result<Vec<Entry>, NoMemory>
-        ensures is { IfOk result (λ h. h.items ≡ history_with self.now (picks_of ahead.now)) }
-        ensures legal { IfOk result (λ h. IsLegal self.now.content h.items) }
-        ensures recovers { IfOk result (λ h. HasMap (S.meaning.layout self.now.structure) (crash_image (picks_of ahead.now) self.now.state) (map_after_all self.now.content h.items)) }
+        ensures is { IfOk result (λ h. h.items ≡ history_with self.now.run (picks_of ahead.now)) }
+        ensures legal { IfOk result (λ h. IsLegal self.now.run.content h.items) }
+        ensures recovers { IfOk result (λ h. HasMap (S.meaning self.now.structure).layout
+            (crash_image (picks_of ahead.now) self.now.run.state)
+            (map_after_all self.now.run.content h.items)) }
     {
         history_ahead(alloc, &self.settled, &self.placed, &self.players, ahead)
     }

@@ -1,22 +1,46 @@
-ghost use Rattle.std.specs.Prelude.{◌≡◌, ◌≢◌, ◌<◌, ◌≤◌, List, None, Some, [], length, vec_len, vec_capacity};
+ghost use Rattle.std.specs.Prelude.{◌≡◌, ◌≢◌, ◌<◌, ◌≤◌, ℕ, List, None, Some, [], IfNone, IfSome, length, vec_len, vec_capacity};
 ghost use Rattle.std.specs.List.{AllByRecursion, Contains};
 ghost use Rattle.std.specs.List.Sorted.{IsStrictlyIncreasing};
-ghost use Rattle.flit_structure.specs.Meanings.{key_of as the_key_of};
-ghost use Rattle.flit_sched.specs.Settled.{waits_after, raised, Settles};
+ghost use Rattle.flit_structure.specs.Meanings.{effect_by, key_of as the_key_of};
+ghost use Rattle.flit_sched.specs.Settled.{waits_after, waiters_after, raised, AreLastFrom, NoneAt, WaitsAt, Settles};
 ghost use Rattle.flit_sched.specs.Kept.{waiting_of};
+ghost use Rattle.flit_sched.specs.Seats.{seated};
 
 use crate::books::change;
 use crate::players::{Player, Waiting};
-use crate::turning::waiting_at;
+use crate::seats::Seat;
+use crate::turning::effect;
 use flit_model::{Entry, Event};
+use flit_structure::Structure;
 
-/// Where an Exchange that takes effect is won, its entry waits from now on.
-pub(crate) fn wait<O>(player: &mut Player<O>, event: Event, answer: u64, effect: Option<Entry>)
-    ensures { player.new ≡ record player.old { waiting = waits_after event answer effect player.old.waiting } }
+/// Where an Exchange is won by which a call takes effect, its update waits from now on. `waiters` has, by word, the
+/// worker whose update waited there last.
+pub(crate) fn wait<S: Structure>(
+    structure: &S,
+    player: &mut Player<Seat<S::Op>>,
+    waiters: &mut Vec<u8>,
+    event: Event,
+    answer: u64,
+)
+    requires within { (word from to : ℕ) → event ≡ Event.Exchange word from to →
+        word < length waiters.old.items }
+    requires small { player.old.worker.name ≤ 64 }
+    ensures waits { let m = S.meaning structure.now in
+        player.new ≡ record player.old {
+          waiting =
+              waits_after event answer (effect_by m (seated m player.old.worker)) player.old.waiting;
+        } }
+    ensures last { let m = S.meaning structure.now in
+        waiters.new.items ≡ waiters_after event answer (effect_by m (seated m player.old.worker))
+        player.old.worker.name waiters.old.items }
 {
-    if let (Event::Exchange { word, old, .. }, Some(entry)) = (event, effect) {
-        if answer == old {
+    let Event::Exchange { word, old, .. } = event else {
+        return;
+    };
+    if answer == old {
+        if let Some(entry) = effect(structure, &player.worker) {
             player.waiting = Some(Waiting { word, entry });
+            waiters[word as usize] = player.worker.name as u8;
         }
     }
 }
@@ -31,9 +55,22 @@ fn raises(event: Event, answer: u64) -> Option<u32>
     }
 }
 
+/// The worker of which an entry waits at a word, from 0, and the entry.
+fn waiting_at<W>(players: &[Player<W>], waiters: &[u8], word: u32) -> Option<(usize, Entry)>
+    requires within { word < length waiters.now }
+    requires last { AreLastFrom waiters.now 1 players.now }
+    ensures none { IfNone result (NoneAt word players.now) }
+    ensures some { IfSome result (λ r. WaitsAt word players.now r.0 r.1) }
+{
+    let at = (waiters[word as usize] as usize).checked_sub(1)?;
+    let waiting = players.get(at)?.waiting?;
+    (waiting.word == word).then_some((at, waiting.entry))
+}
+
 /// Where a Persist raises a shadow, the entry that waits there is settled, and the book is kept up.
-pub(crate) fn settle<O>(
-    players: &mut Vec<Player<O>>,
+pub(crate) fn settle<W>(
+    players: &mut Vec<Player<W>>,
+    waiters: &[u8],
     settled: &mut Vec<Entry>,
     keys: &[u32],
     values: &mut Vec<Option<u32>>,
@@ -42,15 +79,20 @@ pub(crate) fn settle<O>(
 )
     requires rising { IsStrictlyIncreasing keys.now }
     requires same { length values.old.items ≡ length keys.now }
-    requires has { AllByRecursion (λ w. Contains keys.now (the_key_of w.1.call)) (waiting_of players.old.items) }
-    requires room { raised event answer ≢ None → waiting_of players.old.items ≢ [] → vec_len settled.old < vec_capacity settled.old }
-    ensures settles { Settles keys.now (raised event answer) players.old.items settled.old.items values.old.items players.new.items settled.new.items values.new.items }
+    requires has { AllByRecursion (λ w. Contains keys.now (the_key_of w.1.call))
+        (waiting_of players.old.items) }
+    requires room { raised event answer ≢ None → waiting_of players.old.items ≢ [] →
+        vec_len settled.old < vec_capacity settled.old }
+    requires within { (word : ℕ) → raised event answer ≡ Some word → word < length waiters.now }
+    requires last { AreLastFrom waiters.now 1 players.old.items }
+    ensures settles { Settles keys.now (raised event answer) players.old.items settled.old.items
+        values.old.items players.new.items settled.new.items values.new.items }
     ensures capacity { vec_capacity settled.old ≤ vec_capacity settled.new }
 {
     let Some(word) = raises(event, answer) else {
         return;
     };
-    let Some((at, entry)) = waiting_at(players, word) else {
+    let Some((at, entry)) = waiting_at(players, waiters, word) else {
         return;
     };
     players[at].waiting = None;

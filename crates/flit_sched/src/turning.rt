@@ -1,140 +1,194 @@
-ghost use Rattle.std.specs.Prelude.{◌≡◌, ◌≢◌, ℕ, ◌+◌, ◌<◌, ◌≤◌, ◌++◌, ◌∷◌, List, IsSome, IfSome, IfNone, Option, Some, None, is_some, length};
+ghost use Rattle.std.specs.Prelude.{◌≡◌, ℕ, ◌+◌, ◌<◌, ◌≤◌, IsSome, Option, Some, true};
 ghost use Rattle.flit_model.specs.declared.calls.Call.{Call as A_call};
 ghost use Rattle.flit_pv.specs.declared.hands.Hand.{Hand as A_hand};
 ghost use Rattle.flit_structure.specs.declared.workers.Doing.TheVariants.{Idle, Busy};
-ghost use Rattle.flit_structure.specs.Meanings.{MayStart, Told, asked_by, effect_by, goes_on};
-ghost use Rattle.flit_sched.specs.Turns.{enters, reply_in, hand_over, rested, tally_in};
-ghost use Rattle.flit_sched.specs.Settled.{NoneAt, WaitsAt};
+ghost use Rattle.flit_structure.specs.Meanings.{MayStart, MayTake, asked_by, effect_by, goes_on};
+ghost use Rattle.flit_sched.specs.Seats.{at_rest, doing_of, seated, HasEnded};
+ghost use Rattle.flit_sched.specs.Turns.{enters, rested, end_in, tally_in};
 
-use crate::players::Player;
+use crate::seats::{At, Seat, UnderWay};
 use flit_model::{Call, Entry, Event, Item, Reply, Tally};
 use flit_pv::{Evict, Hand};
-use flit_structure::{Doing, Structure, Worker};
+use flit_structure::Structure;
 use std::mem;
 
-/// An idle worker begins an item; another goes on.
-pub(crate) fn begin<S: Structure>(structure: &S, worker: &mut Worker<S::Op>, item: Item)
-    requires { (hand : A_hand) (call : A_call) → worker.old.doing ≡ Idle hand → item ≡ Item.Call call → MayStart (S.meaning.layout structure.now) hand call × (worker.old.number < 4294967295) }
-    ensures { worker.new ≡ enters S.meaning structure.now worker.old worker.old.doing (Some item) }
+/// How an event ends the item of its worker.
+#[derive(Clone, Copy, Debug, PartialEq, Eq)]
+pub enum End {
+    /// The worker is still at it.
+    NotYet,
+    /// The Evict is over.
+    Evicted,
+    /// The call has its reply; and how many updates were settled at its first event.
+    Replied {
+        call: Call,
+        first: u64,
+        reply: Reply,
+    },
+}
+
+/// Takes the hand of a worker that is at no item out of what it was at last.
+fn hand_out<S: Structure>(structure: &S, seat: &mut Seat<S::Op>) -> Hand
+    requires rests { at_rest seat.old.at ≡ true }
+    requires named { 1 ≤ seat.old.name }
+    requires ended { HasEnded (S.meaning structure.now) seat.old.at }
+    ensures hand { doing_of (S.meaning structure.now) seat.old.name seat.old.at ≡ Idle result }
+    ensures same { seat.new ≡ record seat.old { at = seat.new.at } }
 {
-    if let Doing::Idle(_) = &worker.doing {} else {
-        return;
+    match mem::replace(&mut seat.at, At::New) {
+        At::New => Hand::first(seat.name),
+        At::Call { op, .. } => structure.finish(op),
+        At::Evict { evict, .. } => evict.end().0,
     }
-    if let Doing::Idle(hand) = mem::replace(&mut worker.doing, Doing::Idle(Hand::first(1))) {
-        match item {
-            Item::Call(call) => {
-                let op = structure.start(hand, call);
-                worker.number += 1;
-                worker.doing = Doing::Busy {
-                    op,
-                    call,
-                    begun: None,
-                };
-            }
-            Item::Evict(word) => worker.doing = Doing::Evicting(Evict::start(hand, word)),
+}
+
+/// A worker that is at no item begins a call, in the place of the last one where it was at a call.
+fn begin_call<S: Structure>(structure: &S, seat: &mut Seat<S::Op>, call: Call)
+    requires rests { at_rest seat.old.at ≡ true }
+    requires named { 1 ≤ seat.old.name }
+    requires ended { HasEnded (S.meaning structure.now) seat.old.at }
+    requires may { (hand : A_hand) → doing_of (S.meaning structure.now) seat.old.name
+        seat.old.at ≡ Idle hand → MayStart (S.meaning structure.now).layout hand call
+        × (seat.old.number < 4294967295) }
+    ensures begun { seated (S.meaning structure.now) seat.new ≡ enters (S.meaning structure.now)
+        (seated (S.meaning structure.now) seat.old)
+        (doing_of (S.meaning structure.now) seat.old.name seat.old.at) (Some (Item.Call call)) }
+    ensures ended { HasEnded (S.meaning structure.now) seat.new.at }
+{
+    seat.number += 1;
+    let going = UnderWay { call, begun: None };
+    if let At::Call { op, under_way } = &mut seat.at {
+        structure.start_again(op, call);
+        *under_way = Some(going);
+    } else {
+        let hand = hand_out(structure, seat);
+        seat.at = At::Call {
+            op: structure.start(hand, call),
+            under_way: Some(going),
+        };
+    }
+}
+
+/// A worker that is at no item begins one.
+pub(crate) fn begin<S: Structure>(structure: &S, seat: &mut Seat<S::Op>, item: Item)
+    requires rests { at_rest seat.old.at ≡ true }
+    requires named { 1 ≤ seat.old.name }
+    requires ended { HasEnded (S.meaning structure.now) seat.old.at }
+    requires may { (hand : A_hand) (call : A_call) →
+        doing_of (S.meaning structure.now) seat.old.name seat.old.at ≡ Idle hand →
+        item ≡ Item.Call call → MayStart (S.meaning structure.now).layout hand call
+        × (seat.old.number < 4294967295) }
+    ensures begun { seated (S.meaning structure.now) seat.new ≡ enters (S.meaning structure.now)
+        (seated (S.meaning structure.now) seat.old)
+        (doing_of (S.meaning structure.now) seat.old.name seat.old.at) (Some item) }
+    ensures ended { HasEnded (S.meaning structure.now) seat.new.at }
+{
+    match item {
+        Item::Call(call) => begin_call(structure, seat, call),
+        Item::Evict(word) => {
+            let hand = hand_out(structure, seat);
+            seat.at = At::Evict {
+                evict: Evict::start(hand, word),
+                over: false,
+            };
         }
     }
 }
 
 /// The event that a worker asks for.
-pub(crate) fn asked<S: Structure>(structure: &S, worker: &Worker<S::Op>) -> Option<Event>
-    ensures { result ≡ asked_by S.meaning structure.now worker.now }
+pub(crate) fn asked<S: Structure>(structure: &S, seat: &Seat<S::Op>) -> Option<Event>
+    ensures { result ≡ asked_by (S.meaning structure.now)
+        (seated (S.meaning structure.now) seat.now) }
 {
-    match &worker.doing {
-        Doing::Idle(_) => None,
-        Doing::Busy { op, .. } => structure.ask(op),
-        Doing::Evicting(evict) => evict.ask(),
+    match &seat.at {
+        At::New => None,
+        At::Call { op, under_way } => match under_way {
+            Some(_) => structure.ask(op),
+            None => None,
+        },
+        At::Evict { evict, over } => { if *over { None } else { evict.ask() } }
     }
 }
 
 /// The update that takes effect by that event, where that is won.
-pub(crate) fn effect<S: Structure>(structure: &S, worker: &Worker<S::Op>) -> Option<Entry>
-    ensures { result ≡ effect_by S.meaning structure.now worker.now }
+pub(crate) fn effect<S: Structure>(structure: &S, seat: &Seat<S::Op>) -> Option<Entry>
+    ensures { result ≡ effect_by (S.meaning structure.now)
+        (seated (S.meaning structure.now) seat.now) }
 {
-    match &worker.doing {
-        Doing::Busy { op, call, .. } if structure.takes_effect(op) => Some(Entry {
-            worker: worker.name,
-            number: worker.number,
-            call: *call,
-            reply: Reply::Yes,
-        }),
-        _ => None,
-    }
+    let At::Call { op, under_way } = &seat.at else {
+        return None;
+    };
+    let going = (*under_way)?;
+    structure.takes_effect(op).then_some(Entry {
+        worker: seat.name,
+        number: seat.number,
+        call: going.call,
+        reply: Reply::Yes,
+    })
 }
 
-/// Gives a worker its event's answer, when so many updates were settled before the event.
+/// Gives a worker its event's answer, when so many updates were settled before the event. It is done with its item
+/// where that was the last event.
 pub(crate) fn take<S: Structure>(
     structure: &S,
-    worker: &mut Worker<S::Op>,
+    seat: &mut Seat<S::Op>,
     settled: u64,
     answer: u64,
-)
-    requires asks { IsSome (asked_by S.meaning structure.now worker.old) }
-    requires told { (op : S.Op) (call : A_call) (begun : Option ℕ) → worker.old.doing ≡ Busy op call begun → Told S.meaning structure.now op answer }
-    ensures { worker.new ≡ record worker.old { doing = goes_on S.meaning structure.now settled worker.old.doing answer } }
+) -> End
+    requires asks { IsSome (asked_by (S.meaning structure.now)
+        (seated (S.meaning structure.now) seat.old)) }
+    requires told { (op : S.Op) (call : A_call) (begun : Option ℕ) →
+        doing_of (S.meaning structure.now) seat.old.name seat.old.at ≡ Busy op call begun →
+        MayTake (S.meaning structure.now) op answer }
+    ensures rested { let u = seated (S.meaning structure.now) seat.old in
+        seated (S.meaning structure.now) seat.new ≡ rested (S.meaning structure.now) u
+        (goes_on (S.meaning structure.now) settled u.doing answer) }
+    ensures end { result ≡ end_in (S.meaning structure.now)
+        (goes_on (S.meaning structure.now) settled
+        (doing_of (S.meaning structure.now) seat.old.name seat.old.at) answer) }
+    ensures ended { HasEnded (S.meaning structure.now) seat.new.at }
 {
-    match &mut worker.doing {
-        Doing::Idle(_) => {}
-        Doing::Busy { op, begun, .. } => {
+    match &mut seat.at {
+        At::New => End::NotYet,
+        At::Call { op, under_way } => {
+            let Some(going) = *under_way else {
+                return End::NotYet;
+            };
             structure.take(op, answer);
-            *begun = Some(begun.unwrap_or(settled));
+            let first = going.begun.unwrap_or(settled);
+            let call = going.call;
+            match structure.reply(op) {
+                Some(reply) => {
+                    *under_way = None;
+                    End::Replied { call, first, reply }
+                }
+                None => {
+                    let begun = Some(first);
+                    *under_way = Some(UnderWay { call, begun });
+                    End::NotYet
+                }
+            }
         }
-        Doing::Evicting(evict) => evict.take(answer),
-    }
-}
-
-/// The reply of a worker's call, once it has one.
-pub(crate) fn replied<S: Structure>(structure: &S, worker: &Worker<S::Op>) -> Option<Reply>
-    ensures { result ≡ reply_in S.meaning structure.now worker.now.doing }
-{
-    match &worker.doing {
-        Doing::Busy { op, .. } => structure.reply(op),
-        _ => None,
-    }
-}
-
-/// A worker whose item is over rests. It answers whether one was.
-pub(crate) fn rest<S: Structure>(structure: &S, worker: &mut Worker<S::Op>) -> bool
-    ensures rested { worker.new ≡ rested S.meaning structure.now worker.old worker.old.doing }
-    ensures over { result ≡ is_some (hand_over S.meaning structure.now worker.old.doing) }
-{
-    let over = match &worker.doing {
-        Doing::Idle(_) => false,
-        Doing::Busy { op, .. } => structure.reply(op).is_some(),
-        Doing::Evicting(evict) => evict.ask().is_none(),
-    };
-    if over {
-        match mem::replace(&mut worker.doing, Doing::Idle(Hand::first(1))) {
-            Doing::Idle(hand) => worker.doing = Doing::Idle(hand),
-            Doing::Busy { op, .. } => worker.doing = Doing::Idle(structure.finish(op)),
-            Doing::Evicting(evict) => worker.doing = Doing::Idle(evict.end().0),
+        At::Evict { evict, over } => {
+            if *over {
+                return End::NotYet;
+            }
+            evict.take(answer);
+            *over = evict.ask().is_none();
+            if *over { End::Evicted } else { End::NotYet }
         }
     }
-    over
 }
 
 /// The tally of a worker.
-pub(crate) fn tally_of<S: Structure>(structure: &S, worker: &Worker<S::Op>) -> Tally
-    ensures { result ≡ tally_in S.meaning structure.now worker.now.doing }
+pub(crate) fn tally_of<S: Structure>(structure: &S, seat: &Seat<S::Op>) -> Tally
+    requires { 1 ≤ seat.now.name }
+    ensures { result ≡ tally_in (S.meaning structure.now)
+        (doing_of (S.meaning structure.now) seat.now.name seat.now.at) }
 {
-    match &worker.doing {
-        Doing::Idle(hand) => hand.tally,
-        Doing::Busy { op, .. } => structure.tally(op),
-        Doing::Evicting(evict) => evict.tally(),
+    match &seat.at {
+        At::New => Hand::first(seat.name).tally,
+        At::Call { op, .. } => structure.tally(op),
+        At::Evict { evict, .. } => evict.tally(),
     }
-}
-
-/// The first worker of which an entry waits at a word, and the entry.
-pub(crate) fn waiting_at<O>(players: &Vec<Player<O>>, word: u32) -> Option<(usize, Entry)>
-    ensures none { IfNone result (NoneAt word players.now.items) }
-    ensures some { IfSome result (λ r. WaitsAt word players.now.items r.0 r.1) }
-{
-    for (at, player) in players.iter().enumerate() {
-        if let Some(waiting) = player.waiting {
-            if waiting.word == word {
-                return Some((at, waiting.entry));
-            }
-        }
-    }
-    None
 }

@@ -5,4 +5,6 @@ use Rattle.flit_histories.proofs.laws.updates_were_won.Goals as goal
 use Rattle.flit_sched.specs.Openings.{opened_run}
 
 pub returns : goal.returns
-returns g c = λ s start works r h led. won g.S.Structure.meaning (opened_run g.S.Structure.meaning s start works) r led (nothing_is_made (IsWonBetween g.S.Structure.meaning (opened_run g.S.Structure.meaning s start works) (opened_run g.S.Structure.meaning s start works)))
+returns g c = λ s. let meaning = g.S.Structure.meaning s in
+    λ start works r h led. won meaning (opened_run meaning start works) r led
+    (nothing_is_made (IsWonBetween meaning (opened_run meaning start works) (opened_run meaning start works)))

@@ -19,7 +19,8 @@ loop-position-preserved c =
     record {
       within = subst (λ rs. c.in_ok-next.next ≤ length rs) same c.in_ok-next.ensures.within;
       left = left_on _ _ _ c.loop-position.invariant.left _ _ refl (let e1 = same in cc);
-      so_far = merge_more _ _ _ _ _ c.in_ok-sorted.ensures c.loop-position.invariant.left _ _ _ _ _ _ (omega arith) refl (let e1 = same in cc) c.in_ok-push.ensures.items c.loop-position.invariant.so_far;
+      so_far = merge_more _ _ _ _ _ c.in_ok-sorted.ensures c.loop-position.invariant.left _ _ _ _ _ _ (omega arith) refl (let e1 = same in cc)
+          c.in_ok-push.ensures.items c.loop-position.invariant.so_far;
     }
 
 pub returns : goal.returns

@@ -12,6 +12,8 @@ index_mut-requires c =
 
 pub loop-word-preserved : goal.loop-word-preserved
 loop-word-preserved c = elim c.if-word-words.branch [
-  | then-word-words w ↦ ap (λ v. v.items) w.image-is ∙ takes_one c.args.machine.now c.args.chosen.now c.loop-word.word-index 0 c.loop-word-test.true c.args.words c.loop-word.image.items w.kept_word.result c.loop-word.invariant w.if-word-words.true w.kept_word.ensures
-  | else-word-words w ↦ ap (λ v. v.items) w.image-is ∙ takes_none c.args.machine.now c.args.chosen.now c.loop-word.word-index 0 c.loop-word-test.true c.args.words c.loop-word.image.items c.loop-word.invariant w.if-word-words.false
+  | then-word-words w ↦ ap (λ v. v.items) w.image-is ∙ takes_one c.args.machine.now c.args.chosen.now c.loop-word.word-index 0 c.loop-word-test.true
+      c.args.words c.loop-word.image.items w.kept_word.result c.loop-word.invariant w.if-word-words.true w.kept_word.ensures
+  | else-word-words w ↦ ap (λ v. v.items) w.image-is ∙ takes_none c.args.machine.now c.args.chosen.now c.loop-word.word-index 0 c.loop-word-test.true
+      c.args.words c.loop-word.image.items c.loop-word.invariant w.if-word-words.false
 ]
