@@ -36,7 +36,8 @@ entry_stands name (e ∷ es) x front back h = by_test (λ f q. entry_stands name
     on : StandsFrom 0 es x → StandsFrom 0 (e ∷ es) x
     on s = (e ∷ s.0, s.1, ap (λ zs. e ∷ zs) s.2, omega arith)
 
-    by_test : ((f : List Entry) → entries_of name es ≡ f ++ x ∷ back → StandsFrom 0 es x) → (b : Bool) (f : List Entry) → cond b (e ∷ entries_of name es) (entries_of name es) ≡ f ++ x ∷ back → StandsFrom 0 (e ∷ es) x
+    by_test : ((f : List Entry) → entries_of name es ≡ f ++ x ∷ back → StandsFrom 0 es x) → (b : Bool) (f : List Entry) →
+        cond b (e ∷ entries_of name es) (entries_of name es) ≡ f ++ x ∷ back → StandsFrom 0 (e ∷ es) x
     by_test rest false f q = on (rest f q)
     by_test rest true [] q = let same : e ≡ x = cc in ([], es, ap (λ z. z ∷ es) same, omega arith)
     by_test rest true (y ∷ f) q = let tail : entries_of name es ≡ f ++ x ∷ back = cc in on (rest f tail)
@@ -45,7 +46,7 @@ entry_stands name (e ∷ es) x front back h = by_test (λ f q. entry_stands name
 abbrev pub AddsOne : Progress → List Entry → Type 0
 AddsOne p more = (more ≡ []) ⊎ ((word : ℕ) × (x : Entry) × (fin.get p.waiting word ≡ Some x) × (more ≡ x ∷ []))
 
-module _ {S Op : Type 0} (meaning : Meaning S Op) (laws : Lawful meaning) (s : S) (M : Moment Op) (holds : meaning.holds s M) where
+module _ {Op : Type 0} (meaning : Meaning Op) (laws : Lawful meaning) (M : Moment Op) (holds : meaning.holds M) where
   -- an update that waited joins the account of its own name
   joins : (mine : List Made) (word : ℕ) (x : Entry) → fin.get M.progress.waiting word ≡ Some x →
       (name number : ℕ) (op : Op) (call : _) (begun : Option ℕ) → x ≡ update_of name number call →
@@ -61,29 +62,34 @@ module _ {S Op : Type 0} (meaning : Meaning S Op) (laws : Lawful meaning) (s : S
 
       twice : (e : Entry) → entries_of name M.progress.settled ≡ entries_of name (updates_in mine) ++ e ∷ [] → e ≡ update_of name number call → ⊥
       twice e q same =
-          let k : StandsFrom 0 M.progress.settled x = subst (λ z. StandsFrom 0 M.progress.settled z) (same ∙ sym is) (entry_stands name M.progress.settled e (entries_of name (updates_in mine)) [] q) in
-          let below : suc x.number ≤ x.number = settled_below M.progress k.0 k.1 x word x k.2 waits refl (laws.rises s M x.worker holds) in
+          let k : StandsFrom 0 M.progress.settled x = subst (λ z. StandsFrom 0 M.progress.settled z) (same ∙ sym is)
+          (entry_stands name M.progress.settled e (entries_of name (updates_in mine)) [] q) in
+          let below : suc x.number ≤ x.number = settled_below M.progress k.0 k.1 x word x k.2 waits refl ((laws.entries M holds).rises x.worker) in
           omega arith
 
-      by_more : (more : List Entry) → entries_of name M.progress.settled ≡ entries_of name (updates_in mine) ++ more → IsOneMore (busy name number op call begun) more →
+      by_more : (more : List Entry) → entries_of name M.progress.settled ≡ entries_of name (updates_in mine) ++ more →
+          IsOneMore (busy name number op call begun) more →
           Account (M.progress.settled ++ x ∷ []) mine (busy name number op call begun)
       by_more [] e one = record { more = x ∷ []; is = whole [] e; one = is; below = a.below }
       by_more (d ∷ []) e one = absurd (twice d e one)
       by_more (d ∷ (f ∷ fs)) e one = absurd one
 
-  pub account_grows : (mine : List Made) (more : List Entry) (u : Worker Op) → AddsOne M.progress more → IsAmong M.workers u → Account M.progress.settled mine u → Account (M.progress.settled ++ more) mine u
-  account_grows mine more u (inl none) among a = subst (λ es. Account es mine u) (sym (append-nil M.progress.settled) ∙ ap (λ zs. M.progress.settled ++ zs) (sym none)) a
+  pub account_grows : (mine : List Made) (more : List Entry) (u : Worker Op) → AddsOne M.progress more → IsAmong M.workers u →
+      Account M.progress.settled mine u → Account (M.progress.settled ++ more) mine u
+  account_grows mine more u (inl none) among a = subst (λ es. Account es mine u) (sym (append-nil M.progress.settled)
+      ∙ ap (λ zs. M.progress.settled ++ zs) (sym none)) a
   account_grows mine more u (inr (word, x, waits, is)) among a =
       subst (λ zs. Account (M.progress.settled ++ zs) mine u) (sym is) (by_test (eqb x.worker u.name) refl)
     where
       under : IsUnderWay M.workers x
-      under = (laws.waits s M word x holds waits).1
+      under = (laws.waits M word x holds waits).1
 
       own : x.worker ≡ u.name → Account (M.progress.settled ++ x ∷ []) mine u
       own same =
           let name = under.0 in
           let it : Worker Op = busy under.0 under.1 under.2 under.3 under.4 in
-          let k : it ≡ u = same_worker M.workers under.5.0 under.5.1 among.0 among.1 it u under.5.2 among.2 (laws.distinct s M holds) (sym (ap (λ z. z.worker) under.6) ∙ same) in
+          let k : it ≡ u = same_worker M.workers under.5.0 under.5.1 among.0 among.1 it u under.5.2 among.2 (laws.named M holds).different
+          (sym (ap (λ z. z.worker) under.6) ∙ same) in
           subst (λ w. Account (M.progress.settled ++ x ∷ []) mine w) k
           (joins mine word x waits under.0 under.1 under.2 under.3 under.4 under.6 (subst (λ w. Account M.progress.settled mine w) (sym k) a))
 
@@ -138,19 +144,23 @@ module _ {Op : Type 0} (settled : List Entry) (u : Worker Op) where
   pub account_behind : (mine items : List Made) → NoneOf u.name (answered items) → Account settled mine u → Account settled (mine ++ items) u
   account_behind mine items none a = record {
     more = a.more;
-    is = a.is ∙ ap (λ zs. zs ++ a.more) (sym (entries_updates u.name mine items ∙ ap (λ zs. entries_of u.name (updates_in mine) ++ zs) (none_updates u.name items none) ∙ append-nil (entries_of u.name (updates_in mine))));
+    is = a.is ∙ ap (λ zs. zs ++ a.more) (sym (entries_updates u.name mine items
+        ∙ ap (λ zs. entries_of u.name (updates_in mine) ++ zs) (none_updates u.name items none) ∙ append-nil (entries_of u.name (updates_in mine))));
     one = a.one;
     below = subst (AllByRecursion (λ e. e.worker ≡ u.name → e.number < next_number u.number u.doing)) (sym (answered-append mine items))
-        (all_both (λ e. e.worker ≡ u.name → e.number < next_number u.number u.doing) (answered mine) (answered items) a.below (none_below (answered items) none));
+        (all_both (λ e. e.worker ≡ u.name → e.number < next_number u.number u.doing) (answered mine) (answered items) a.below
+        (none_below (answered items) none));
   }
 
   pub account_before : (items mine : List Made) → NoneOf u.name (answered items) → Account settled mine u → Account settled (items ++ mine) u
   account_before items mine none a = record {
     more = a.more;
-    is = a.is ∙ ap (λ zs. zs ++ a.more) (sym (entries_updates u.name items mine ∙ ap (λ zs. zs ++ entries_of u.name (updates_in mine)) (none_updates u.name items none)));
+    is = a.is ∙ ap (λ zs. zs ++ a.more) (sym (entries_updates u.name items mine
+        ∙ ap (λ zs. zs ++ entries_of u.name (updates_in mine)) (none_updates u.name items none)));
     one = a.one;
     below = subst (AllByRecursion (λ e. e.worker ≡ u.name → e.number < next_number u.number u.doing)) (sym (answered-append items mine))
-        (all_both (λ e. e.worker ≡ u.name → e.number < next_number u.number u.doing) (answered items) (answered mine) (none_below (answered items) none) a.below);
+        (all_both (λ e. e.worker ≡ u.name → e.number < next_number u.number u.doing) (answered items) (answered mine) (none_below (answered items) none)
+        a.below);
   }
 
   -- a name that has made nothing has an account without items

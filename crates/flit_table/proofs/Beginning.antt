@@ -43,7 +43,8 @@ module _ {S Op : Type 0} (log : List Logged) where
 
 module _ {Op : Type 0} (settled : List Entry) (mine : List Made) (name number : ℕ) where
   -- an account of a worker at no call serves whatever it begins
-  call_account : (hand : Hand) (op : Op) (call : Call) → Account {Op = Op} settled mine (idle name number hand) → Account settled mine (busy name (number + 1) op call None)
+  call_account : (hand : Hand) (op : Op) (call : Call) → Account {Op = Op} settled mine (idle name number hand) →
+      Account settled mine (busy name (number + 1) op call None)
   call_account hand op call a = record { more = a.more; is = a.is; one = by_more a.more a.one; below = a.below }
     where
       by_more : (more : List Entry) → IsOneMore {Op = Op} (idle name number hand) more → IsOneMore (busy name (number + 1) op call None) more
@@ -51,20 +52,19 @@ module _ {Op : Type 0} (settled : List Entry) (mine : List Made) (name number : 
       by_more (e ∷ []) h = absurd h
       by_more (e ∷ (d ∷ ds)) h = h
 
-  evict_account : (hand : Hand) (word : ℕ) → Account {Op = Op} settled mine (idle name number hand) → Account {Op = Op} settled mine (sweeper name number (evict_started hand word))
+  evict_account : (hand : Hand) (word : ℕ) → Account {Op = Op} settled mine (idle name number hand) →
+      Account {Op = Op} settled mine (sweeper name number (evict_started hand word))
   evict_account hand word a = record { more = a.more; is = a.is; one = by_more a.more a.one; below = a.below }
     where
-      by_more : (more : List Entry) → IsOneMore {Op = Op} (idle name number hand) more → IsOneMore {Op = Op} (sweeper name number (evict_started hand word)) more
+      by_more : (more : List Entry) → IsOneMore {Op = Op} (idle name number hand) more →
+          IsOneMore {Op = Op} (sweeper name number (evict_started hand word)) more
       by_more [] h = tt
       by_more (e ∷ []) h = h
       by_more (e ∷ (d ∷ ds)) h = h
 
-module _ {S Op : Type 0} (meaning : Meaning S Op) (laws : Lawful meaning) (o : Origin S) (m : State) (log : List Logged) where
-  abbrev s : S
-  s = o.structure.value
-
+module _ {S Op : Type 0} (meaning : Meaning Op) (laws : Lawful meaning) (o : Origin S) (m : State) (log : List Logged) where
   abbrev M : Moment Op
-  M = moment_of meaning o m log []
+  M = moment_of o m log []
 
   module _ (A B : List (Worker Op)) (name number : ℕ) where
     abbrev worker : Doing Op → Worker Op
@@ -72,52 +72,59 @@ module _ {S Op : Type 0} (meaning : Meaning S Op) (laws : Lawful meaning) (o : O
 
     module _ (call : Call) where
       abbrev calling : Doing Op → Worker Op
-      calling doing = busy name (number + 1) (meaning.begun s (hand_in meaning s doing) call) call None
+      calling doing = busy name (number + 1) (meaning.begun (hand_in meaning doing) call) call None
 
-      call_happens : (doing : Doing Op) (hand : Hand) → doing ≡ Idle hand → MayStart (meaning.layout s) hand call →
-          Happens meaning s (Some name) (moment_of meaning o m log (A ++ worker doing ∷ B)) (moment_of meaning o m log (A ++ calling doing ∷ B))
+      call_happens : (doing : Doing Op) (hand : Hand) → doing ≡ Idle hand → MayStart meaning.layout hand call →
+          Happens meaning (Some name) (moment_of o m log (A ++ worker doing ∷ B)) (moment_of o m log (A ++ calling doing ∷ B))
       call_happens doing hand e may =
-          subst (λ d. Happens meaning s (Some name) (moment_of meaning o m log (A ++ worker d ∷ B)) (moment_of meaning o m log (A ++ calling d ∷ B))) (sym e)
+          subst (λ d. Happens meaning (Some name) (moment_of o m log (A ++ worker d ∷ B)) (moment_of o m log (A ++ calling d ∷ B))) (sym e)
           (beginning M A name number hand call B may)
 
-      call_licensed : (doing : Doing Op) (hand : Hand) → doing ≡ Idle hand → MayStart (meaning.layout s) hand call → meaning.holds s (moment_of meaning o m log (A ++ worker doing ∷ B)) →
-          meaning.licensed s (moment_of meaning o m log (A ++ calling doing ∷ B)) (meaning.begun s (hand_in meaning s doing) call) (hand_in meaning s doing).tally 0
+      call_licensed : (doing : Doing Op) (hand : Hand) → doing ≡ Idle hand → MayStart meaning.layout hand call →
+          meaning.holds (moment_of o m log (A ++ worker doing ∷ B)) →
+          meaning.licensed (moment_of o m log (A ++ calling doing ∷ B)) (meaning.begun (hand_in meaning doing) call) (hand_in meaning doing).tally 0
       call_licensed doing hand e may =
-          subst (λ d. meaning.holds s (moment_of meaning o m log (A ++ worker d ∷ B)) → meaning.licensed s (moment_of meaning o m log (A ++ calling d ∷ B)) (meaning.begun s (hand_in meaning s d) call) (hand_in meaning s d).tally 0) (sym e)
-          (λ h. laws.licensed_first s M A name number hand call B may h)
+          subst (λ d. meaning.holds (moment_of o m log (A ++ worker d ∷ B)) →
+          meaning.licensed (moment_of o m log (A ++ calling d ∷ B)) (meaning.begun (hand_in meaning d) call) (hand_in meaning d).tally 0) (sym e)
+          (λ h. laws.licensed_first M A name number hand call B may h)
 
-      call_accounts : (settled : List Entry) (mine : List Made) (doing : Doing Op) (hand : Hand) → doing ≡ Idle hand → Account settled mine (worker doing) → Account settled mine (calling doing)
+      call_accounts : (settled : List Entry) (mine : List Made) (doing : Doing Op) (hand : Hand) → doing ≡ Idle hand → Account settled mine (worker doing) →
+          Account settled mine (calling doing)
       call_accounts settled mine doing hand e =
-          subst (λ d. Account settled mine (worker d) → Account settled mine (calling d)) (sym e) (λ a. call_account settled mine name number hand (meaning.begun s hand call) call a)
+          subst (λ d. Account settled mine (worker d) → Account settled mine (calling d)) (sym e)
+          (λ a. call_account settled mine name number hand (meaning.begun hand call) call a)
 
     module _ (word : ℕ) where
       abbrev evicts : Doing Op → Worker Op
-      evicts doing = sweeper name number (evict_started (hand_in meaning s doing) word)
+      evicts doing = sweeper name number (evict_started (hand_in meaning doing) word)
 
-      evict_happens : (doing : Doing Op) (hand : Hand) → doing ≡ Idle hand → word < words_of (meaning.layout s) →
-          Happens meaning s (Some name) (moment_of meaning o m log (A ++ worker doing ∷ B)) (moment_of meaning o m log (A ++ evicts doing ∷ B))
+      evict_happens : (doing : Doing Op) (hand : Hand) → doing ≡ Idle hand → word < words_of meaning.layout →
+          Happens meaning (Some name) (moment_of o m log (A ++ worker doing ∷ B)) (moment_of o m log (A ++ evicts doing ∷ B))
       evict_happens doing hand e within =
-          subst (λ d. Happens meaning s (Some name) (moment_of meaning o m log (A ++ worker d ∷ B)) (moment_of meaning o m log (A ++ evicts d ∷ B))) (sym e)
+          subst (λ d. Happens meaning (Some name) (moment_of o m log (A ++ worker d ∷ B)) (moment_of o m log (A ++ evicts d ∷ B))) (sym e)
           (evicting M A name number hand word B within)
 
-      evict_accounts : (settled : List Entry) (mine : List Made) (doing : Doing Op) (hand : Hand) → doing ≡ Idle hand → Account settled mine (worker doing) → Account settled mine (evicts doing)
+      evict_accounts : (settled : List Entry) (mine : List Made) (doing : Doing Op) (hand : Hand) → doing ≡ Idle hand → Account settled mine (worker doing) →
+          Account settled mine (evicts doing)
       evict_accounts settled mine doing hand e =
           subst (λ d. Account settled mine (worker d) → Account settled mine (evicts d)) (sym e) (λ a. evict_account settled mine name number hand word a)
 
   -- nothing is settled by what is no event
-  pub quiet_change : (name : ℕ) (us ws : List (Worker Op)) → Happens meaning s (Some name) (moment_of meaning o m log us) (moment_of meaning o m log ws) → meaning.holds s (moment_of meaning o m log us) →
-      changes.IsChange meaning laws o name (moment_of meaning o m log us) (moment_of meaning o m log ws)
+  pub quiet_change : (name : ℕ) (us ws : List (Worker Op)) → Happens meaning (Some name) (moment_of o m log us) (moment_of o m log ws) →
+      meaning.holds (moment_of o m log us) →
+      changes.IsChange meaning laws o name (moment_of o m log us) (moment_of o m log ws)
   quiet_change name us ws h k = record {
     happens = h;
     holds = k;
     more = [];
-    grows = sym (append-nil (moment_of meaning o m log us).progress.settled);
+    grows = sym (append-nil (moment_of o m log us).progress.settled);
     adds = inl refl;
     rises = λ word. le_refl _;
   }
 
   -- the rule is kept where the first post of a view begins something
-  module _ (a b : List (View S Op)) (v : View S Op) (some : 0 < v.names) (q : Post Op) (named : q.worker.name ≡ v.post.worker.name) (k : Kept meaning o m log (a ++ v ∷ b)) where
+  module _ (a b : List (View S Op)) (v : View S Op) (some : 0 < v.names) (q : Post Op) (named : q.worker.name ≡ v.post.worker.name)
+      (k : Kept meaning o m log (a ++ v ∷ b)) where
     abbrev w : View S Op
     w = record v { post = q }
 
@@ -137,13 +144,15 @@ module _ {S Op : Type 0} (meaning : Meaning S Op) (laws : Lawful meaning) (o : O
     keeps_name name (inl e) = inl (named ∙ e)
     keeps_name name (inr h) = inr h
 
-    pub post_kept : changes.IsChange meaning laws o v.post.worker.name before later → (Account (settled_in log) v.mine v.post.worker → Account (settled_in log) v.mine q.worker) → IsLicensed meaning s later q →
+    pub post_kept : changes.IsChange meaning laws o v.post.worker.name before later →
+        (Account (settled_in log) v.mine v.post.worker → Account (settled_in log) v.mine q.worker) → IsLicensed meaning later q →
         Kept meaning o m log (a ++ w ∷ b)
     post_kept c account licence =
         let x : Agrees meaning o log before v = changes.agrees_was meaning laws o m m log log a b v w (rest_of v) old new k in
         let others = changes.rest_others meaning laws o m m log log a b v w (rest_of v) old new k in
-        let accounts : AllByRecursion (λ p. Account (settled_in log) v.mine p.worker) (v.post ∷ rest_of v) = subst (AllByRecursion (λ p. Account (settled_in log) v.mine p.worker)) old x.accounts in
-        let licences : AllByRecursion (IsLicensed meaning s before) (v.post ∷ rest_of v) = subst (AllByRecursion (IsLicensed meaning s before)) old x.licensed in
+        let accounts : AllByRecursion (λ p. Account (settled_in log) v.mine p.worker) (v.post ∷ rest_of v) =
+        subst (AllByRecursion (λ p. Account (settled_in log) v.mine p.worker)) old x.accounts in
+        let licences : AllByRecursion (IsLicensed meaning before) (v.post ∷ rest_of v) = subst (AllByRecursion (IsLicensed meaning before)) old x.licensed in
         let own : Agrees meaning o log later w = record {
           opened = x.opened;
           begins = x.begins;
@@ -152,7 +161,8 @@ module _ {S Op : Type 0} (meaning : Meaning S Op) (laws : Lawful meaning) (o : O
           items = all_map (λ i. HasName (name_of i) (used_of v)) (λ i. HasName (name_of i) (used_of w)) (λ i h. keeps_name (name_of i) h) v.mine x.items;
           counted = all_map (λ n. HasName n (used_of v)) (λ n. HasName n (used_of w)) keeps_name v.events x.counted;
           accounts = subst (AllByRecursion (λ p. Account (settled_in log) v.mine p.worker)) (sym new) (account accounts.0, accounts.1);
-          licensed = subst (AllByRecursion (IsLicensed meaning s later)) (sym new) (licence, changes.licences_on meaning laws o v.post.worker.name before later c (rest_of v) others licences.1);
+          licensed = subst (AllByRecursion (IsLicensed meaning later)) (sym new)
+              (licence, changes.licences_on meaning laws o v.post.worker.name before later c (rest_of v) others licences.1);
           settled = x.settled;
           reads = x.reads;
           right = x.right;
@@ -160,25 +170,32 @@ module _ {S Op : Type 0} (meaning : Meaning S Op) (laws : Lawful meaning) (o : O
         } in
         changes.kept_changed meaning laws o m m log log a b v w (rest_of v) old new k c (continues_same log) own (whole_put log a b v w (λ e. e) k.longest)
 
-  pub begins_kept : (start : Start) (a b : List (View S Op)) (v : View S Op) → 0 < v.names → MayEnter meaning s start v.post → Kept meaning o m log (a ++ v ∷ b) → Kept meaning o m log (a ++ entering meaning s start v ∷ b)
+  pub begins_kept : (start : Start) (a b : List (View S Op)) (v : View S Op) → 0 < v.names → MayEnter meaning start v.post → Kept meaning o m log (a ++ v ∷ b) →
+      Kept meaning o m log (a ++ entering meaning start v ∷ b)
   begins_kept Go a b v some may k = k
   begins_kept (Begin call) a b v some may k =
       let p = v.post in
-      let q = entered meaning s (Begin call) p in
+      let q = entered meaning (Begin call) p in
       let A = all_workers a in
-      let B = changes.behind meaning laws o m m log log a b v (record v { post = q }) (rest_of v) (posts_head v some) (posts_head (record v { post = q }) some) in
-      let holds = changes.holds_was meaning laws o m m log log a b v (record v { post = q }) (rest_of v) (posts_head v some) (posts_head (record v { post = q }) some) k in
+      let B = changes.behind meaning laws o m m log log a b v (record v { post = q }) (rest_of v) (posts_head v some) (posts_head (record v { post = q }) some)
+      in
+      let holds = changes.holds_was meaning laws o m m log log a b v (record v { post = q }) (rest_of v) (posts_head v some)
+      (posts_head (record v { post = q }) some) k in
       post_kept a b v some q refl k
-      (quiet_change p.worker.name (A ++ p.worker ∷ B) (A ++ q.worker ∷ B) (call_happens A B p.worker.name p.worker.number call p.worker.doing may.0 may.1 may.2) holds)
+      (quiet_change p.worker.name (A ++ p.worker ∷ B) (A ++ q.worker ∷ B) (call_happens A B p.worker.name p.worker.number call p.worker.doing may.0 may.1 may.2)
+      holds)
       (call_accounts A B p.worker.name p.worker.number call (settled_in log) v.mine p.worker.doing may.0 may.1)
       (call_licensed A B p.worker.name p.worker.number call p.worker.doing may.0 may.1 may.2 holds)
   begins_kept (Sweep word) a b v some may k =
       let p = v.post in
-      let q = entered meaning s (Sweep word) p in
+      let q = entered meaning (Sweep word) p in
       let A = all_workers a in
-      let B = changes.behind meaning laws o m m log log a b v (record v { post = q }) (rest_of v) (posts_head v some) (posts_head (record v { post = q }) some) in
-      let holds = changes.holds_was meaning laws o m m log log a b v (record v { post = q }) (rest_of v) (posts_head v some) (posts_head (record v { post = q }) some) k in
+      let B = changes.behind meaning laws o m m log log a b v (record v { post = q }) (rest_of v) (posts_head v some) (posts_head (record v { post = q }) some)
+      in
+      let holds = changes.holds_was meaning laws o m m log log a b v (record v { post = q }) (rest_of v) (posts_head v some)
+      (posts_head (record v { post = q }) some) k in
       post_kept a b v some q refl k
-      (quiet_change p.worker.name (A ++ p.worker ∷ B) (A ++ q.worker ∷ B) (evict_happens A B p.worker.name p.worker.number word p.worker.doing may.0 may.1 may.2) holds)
+      (quiet_change p.worker.name (A ++ p.worker ∷ B) (A ++ q.worker ∷ B) (evict_happens A B p.worker.name p.worker.number word p.worker.doing may.0 may.1
+      may.2) holds)
       (evict_accounts A B p.worker.name p.worker.number word (settled_in log) v.mine p.worker.doing may.0 may.1)
       tt

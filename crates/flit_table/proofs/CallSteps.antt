@@ -1,6 +1,5 @@
 -- A call, event by event.
-use Rattle.std.proofs.Common.{◌≡◌, ℕ, ◌+◌, ◌≤◌, List, [], ◌∷◌, ◌++◌, Option, Some, None, IsSome, IsNone, IfSome, IfNone, ◌<◌, length, map, replicate, refl, sym, ap, ◌∙◌, subst, arith, append-nil, le_refl, add-one}
-use Rattle.std.proofs.lemmas.Bool.{false≢true}
+use Rattle.std.proofs.Common.{◌≡◌, ℕ, ◌+◌, ◌≤◌, List, [], ◌∷◌, ◌++◌, Option, Some, None, ◌<◌, length, map, replicate, refl, sym, ap, ◌∙◌, subst, arith, append-nil, le_refl, add-one}
 use Rattle.std.proofs.lemmas.List.{length-append}
 use Rattle.std.specs.List.{AllByRecursion}
 use Rattle.flit_model.proofs.HistoryLaws.{all_weaker, legal_from, right_from_start}
@@ -13,18 +12,19 @@ use Rattle.flit_model.specs.declared.events.Event.{Event}
 use Rattle.flit_structure.specs.declared.workers.Doing.TheVariants.{Busy}
 use Rattle.flit_structure.specs.declared.workers.Worker.{Worker}
 use Rattle.flit_structure.specs.Moments.{busy, update_of}
-use Rattle.flit_structure.specs.Meanings.{Meaning, Told, MayStart, first_at, asked_by, goes_on, hand_in, hand_of}
-use Rattle.flit_structure.specs.Lawful.{Lawful, StandsFrom, IsWithin, IsReplied, IsBounded, IsBelowTop, AreSearchesBounded, IsTryBounded}
+use Rattle.flit_structure.specs.Meanings.{Meaning, MayTake, MayStart, first_at, asked_by, goes_on, hand_in, hand_of, reply_at, replied, tally}
+use Rattle.flit_structure.specs.Lawful.{Lawful, StandsFrom, IsWithin, IsReplied, IsBounded, IsBelowTop, AreSearchesBounded, IsTryBounded, events_of_try}
 use Rattle.flit_structure.proofs.Names.{all_map}
 use Rattle.flit_table.specs.declared.views.Origin.{Origin}
-use Rattle.flit_table.specs.declared.views.Start.TheVariants.{Begin}
+use Rattle.flit_table.specs.declared.views.Start.{Start}
+use Rattle.flit_table.specs.declared.views.Start.TheVariants.{Go, Begin}
 use Rattle.flit_table.specs.declared.views.View.{View}
 use Rattle.flit_table.specs.Logs.{progress_of, settled_in, Continues, logged_by}
 use Rattle.flit_table.specs.Views.{content_of, reads_in, updates_seen}
-use Rattle.flit_table.specs.Moves.{first_in, call_over, rests_after_call, over, over_at, rests, MayEnter, entering}
+use Rattle.flit_table.specs.Moves.{tried_after, first_in, call_over, rests_after_call, over, over_at, rests, MayEnter, entering}
 use Rattle.flit_table.specs.Steps.{IsTold, IsRepliedIn, IsTrying, Stepped, After, Belongs, Home}
 use Rattle.atomic_table.specs.declared.shared.Seat.{Seat}
-use Rattle.flit_table.specs.Calls.{Comes, at_first, further, IsSamePass, Runs, Ends}
+use Rattle.flit_table.specs.Calls.{Comes, at_first, further, IsSamePass, Runs, Ends, IsUnderWayAt}
 use Rattle.flit_table.proofs.LogLaws.{continues_same, continues_on, seen_grows}
 
 longer : (xs ys : List Entry) → (more : List Entry) × (ys ≡ xs ++ more) → length xs ≤ length ys
@@ -36,32 +36,22 @@ longer xs ys h = at_most (length xs) (length h.0) (length ys) (ap length h.1 ∙
 more_events : (name k : ℕ) (xs ys zs : List ℕ) → zs ≡ name ∷ ys → ys ≡ replicate k name ++ xs → zs ≡ replicate (k + 1) name ++ xs
 more_events name k xs ys zs p q = rw add-one (p ∙ ap (λ (l : List ℕ). name ∷ l) q)
 
-module _ {S Op : Type 0} (meaning : Meaning S Op) (laws : Lawful meaning) (o : Origin S) where
-  abbrev s : S
-  s = o.structure.value
+-- an event that is asked leaves no reply, and a reply leaves nothing asked
+pub asks_still : (a : Option Event) (said : Reply) (e : Event) → a ≡ Some e → reply_at a said ≡ None
+asks_still a said e is = ap (λ x. reply_at x said) is
 
-  no_some : {X : Type 0} (x : X) → None ≡ Some x → ⊥
-  no_some x e = cc
+asks_nothing : (a : Option Event) (said reply : Reply) → reply_at a said ≡ Some reply → a ≡ None
+asks_nothing None said reply is = refl
+asks_nothing (Some e) said reply is = absurd (cc)
 
-  -- an operation that has just begun has no reply
-  unreplied_first : (op : Op) (e : Event) → meaning.asked s op ≡ Some e → meaning.replied s op ≡ None
-  unreplied_first op e asked = by_case (meaning.replied s op) refl
-    where
-      asks_none : (a : Option Event) → a ≡ Some e → IsNone a → ⊥
-      asks_none None q h = no_some e q
-      asks_none (Some d) q h = absurd (false≢true (sym h))
-
-      by_case : (r : Option Reply) → meaning.replied s op ≡ r → meaning.replied s op ≡ None
-      by_case None q = q
-      by_case (Some reply) q = absurd (asks_none (meaning.asked s op) asked ((laws.asks_or_replies s op).1 (subst IsSome (sym q) refl)))
-
+module _ {S Op : Type 0} (meaning : Meaning Op) (laws : Lawful meaning) (o : Origin S) where
   -- the view as the call begins
-  pub begins_runs : (call : Call) (v : View S Op) → MayEnter meaning s (Begin call) v.post →
-      Runs meaning o call v (entering meaning s (Begin call) v) (meaning.begun s (hand_of meaning s v.post.worker) call) 0
+  pub begins_runs : (call : Call) (v : View S Op) → MayEnter meaning (Begin call) v.post →
+      Runs meaning o call v (entering meaning (Begin call) v) (meaning.begun (hand_of meaning v.post.worker) call) 0
   begins_runs call v may =
-      let hand = hand_of meaning s v.post.worker in
-      let same : may.0 ≡ hand = sym (ap (hand_in meaning s) may.1) in
-      let first = laws.awake s hand call (subst (λ h. MayStart (meaning.layout s) h call) same may.2) in
+      let hand = hand_of meaning v.post.worker in
+      let same : may.0 ≡ hand = sym (ap (hand_in meaning) may.1) in
+      let first = laws.awake hand call (subst (λ h. MayStart meaning.layout h call) same may.2) in
       record {
         begun = None;
         comes = at_first;
@@ -73,15 +63,16 @@ module _ {S Op : Type 0} (meaning : Meaning S Op) (laws : Lawful meaning) (o : O
         placed = refl;
         events = refl;
         late = le_refl _;
-        unreplied = unreplied_first (meaning.begun s hand call) first.0 first.1;
-        within = λ e asked. subst (IsWithin (meaning.layout s)) (same_some first.0 e (sym first.1 ∙ asked)) first.2;
+        unreplied = asks_still (meaning.asked (meaning.begun hand call)) (meaning.reply (meaning.begun hand call)) first.0 first.1;
+        within = λ e asked. subst (IsWithin meaning.layout) (same_some first.0 e (sym first.1 ∙ asked)) first.2;
       }
     where
       same_some : (d e : Event) → Some d ≡ Some e → d ≡ e
       same_some d e q = cc
 
   -- v is the view as the call began, y before an event and w after it
-  module _ (call : Call) (v y w : View S Op) (op : Op) (e : Event) (n k : ℕ) (r : Runs meaning o call v y op k) (asked : meaning.asked s op ≡ Some e) (st : Stepped meaning o y e n w) where
+  module _ (call : Call) (v y w : View S Op) (op : Op) (e : Event) (n k : ℕ) (r : Runs meaning o call v y op k) (asked : meaning.asked op ≡ Some e)
+      (st : Stepped meaning o y e n w) where
     abbrev name : ℕ
     name = v.post.worker.name
 
@@ -89,7 +80,7 @@ module _ {S Op : Type 0} (meaning : Meaning S Op) (laws : Lawful meaning) (o : O
     number = v.post.worker.number + 1
 
     abbrev next : Op
-    next = meaning.taken s op n
+    next = meaning.taken op n
 
     abbrev count : ℕ
     count = length (settled_in (y.log ++ st.between))
@@ -97,14 +88,18 @@ module _ {S Op : Type 0} (meaning : Meaning S Op) (laws : Lawful meaning) (o : O
     abbrev begun : ℕ
     begun = first_at count r.begun
 
-    pub is_told : Told meaning s op n
-    is_told = subst (λ (u : Worker Op). IsTold meaning s u.doing n) r.worker st.tells
+    pub is_told : MayTake meaning op n
+    is_told = subst (λ (u : Worker Op). IsTold meaning u.doing n) r.worker st.tells
 
-    comes_now : Comes meaning s (meaning.begun s (hand_of meaning s v.post.worker) call) next (k + 1)
-    comes_now = further e n r.comes asked is_told
+    tried_now : events_of_try y.post.tried (tally meaning op) (tally meaning next) ≡ w.post.tried
+    tried_now =
+        sym (ap (λ z. z.post.tried) st.rests ∙ ap (λ z. z.post.tried) st.moves ∙ ap (λ (u : Worker Op). tried_after meaning y.post.tried u.doing n) r.worker)
+
+    comes_now : Comes meaning (meaning.begun (hand_of meaning v.post.worker) call) next (k + 1) w.post.tried
+    comes_now = subst (λ z. Comes meaning (meaning.begun (hand_of meaning v.post.worker) call) next (k + 1) z) tried_now (further e n r.comes asked is_told)
 
     moved_worker : st.moved.post.worker ≡ busy name number next call (Some begun)
-    moved_worker = ap (λ z. z.post.worker) st.moves ∙ ap (λ (u : Worker Op). record u { doing = goes_on meaning s count u.doing n }) r.worker
+    moved_worker = ap (λ z. z.post.worker) st.moves ∙ ap (λ (u : Worker Op). record u { doing = goes_on meaning count u.doing n }) r.worker
 
     log_is : w.log ≡ st.moved.log
     log_is = ap (λ z. z.log) st.rests
@@ -132,22 +127,28 @@ module _ {S Op : Type 0} (meaning : Meaning S Op) (laws : Lawful meaning) (o : O
     }
 
     events_now : w.events ≡ replicate (k + 1) name ++ v.events
-    events_now = more_events name k v.events y.events w.events (ap (λ z. z.events) st.rests ∙ ap (λ z. z.events) st.moves ∙ ap (λ (u : Worker Op). u.name ∷ y.events) r.worker) r.events
+    events_now = more_events name k v.events y.events w.events (ap (λ z. z.events) st.rests ∙ ap (λ z. z.events) st.moves
+        ∙ ap (λ (u : Worker Op). u.name ∷ y.events) r.worker) r.events
 
-    start_now : st.moved.post.start ≡ (hand_of meaning s v.post.worker).tally
+    start_now : st.moved.post.start ≡ (hand_of meaning v.post.worker).tally
     start_now = ap (λ z. z.post.start) st.moves ∙ r.start
 
-    rested_worker : (a : Option Reply) → meaning.replied s next ≡ a → w.post.worker ≡ record { name = name; number = number; doing = rests_after_call (Busy next call (Some begun)) (meaning.finished s next) a }
+    rested_worker : (a : Option Reply) → replied meaning next ≡ a → w.post.worker ≡ record {
+      name = name;
+      number = number;
+      doing =
+          rests_after_call (Busy next call (Some begun)) (meaning.finished next) a;
+    }
     rested_worker a is =
-        ap (λ z. z.post.worker) st.rests ∙ ap (λ (u : Worker Op). record u { doing = rests meaning s u.doing }) moved_worker
-        ∙ ap (λ x. record { name = name; number = number; doing = rests_after_call (Busy next call (Some begun)) (meaning.finished s next) x }) is
+        ap (λ z. z.post.worker) st.rests ∙ ap (λ (u : Worker Op). record u { doing = rests meaning u.doing }) moved_worker
+        ∙ ap (λ x. record { name = name; number = number; doing = rests_after_call (Busy next call (Some begun)) (meaning.finished next) x }) is
 
-    over_now : (a : Option Reply) → meaning.replied s next ≡ a → over_at meaning s st.moved.post ≡ call_over name number call a
-    over_now a is = ap (λ (u : Worker Op). over meaning s u.name u.number u.doing) moved_worker ∙ ap (call_over name number call) is
+    over_now : (a : Option Reply) → replied meaning next ≡ a → over_at meaning st.moved.post ≡ call_over name number call a
+    over_now a is = ap (λ (u : Worker Op). over meaning u.name u.number u.doing) moved_worker ∙ ap (call_over name number call) is
 
-    mine_now : (a : Option Reply) → meaning.replied s next ≡ a → w.mine ≡ v.mine ++ call_over name number call a
+    mine_now : (a : Option Reply) → replied meaning next ≡ a → w.mine ≡ v.mine ++ call_over name number call a
     mine_now a is =
-        ap (λ z. z.mine) st.rests ∙ ap (λ z. z ++ over_at meaning s st.moved.post) (ap (λ z. z.mine) st.moves ∙ r.mine) ∙ ap (λ z. v.mine ++ z) (over_now a is)
+        ap (λ z. z.mine) st.rests ∙ ap (λ z. z ++ over_at meaning st.moved.post) (ap (λ z. z.mine) st.moves ∙ r.mine) ∙ ap (λ z. v.mine ++ z) (over_now a is)
 
     placed_now : w.placed ≡ v.placed ++ st.reads
     placed_now = ap (λ z. z.placed) st.rests ∙ ap (λ z. z ++ st.reads) (ap (λ z. z.placed) st.moves ∙ r.placed)
@@ -156,7 +157,7 @@ module _ {S Op : Type 0} (meaning : Meaning S Op) (laws : Lawful meaning) (o : O
     no_reads [] h = refl
     no_reads (x ∷ reads) h = absurd (cc)
 
-    pub goes_further : meaning.replied s next ≡ None → Runs meaning o call v w next (k + 1)
+    pub goes_further : replied meaning next ≡ None → Runs meaning o call v w next (k + 1)
     goes_further none = record {
       begun = Some begun;
       comes = comes_now;
@@ -169,7 +170,7 @@ module _ {S Op : Type 0} (meaning : Meaning S Op) (laws : Lawful meaning) (o : O
       events = events_now;
       late = late_of r.begun r.late;
       unreplied = none;
-      within = λ d asks. st.within d (ap (λ (u : Worker Op). asked_by meaning s u) moved_worker ∙ asks);
+      within = λ d asks. st.within d (ap (λ (u : Worker Op). asked_by meaning u) moved_worker ∙ asks);
     }
 
     stands_from : (es : List Entry) (i j : ℕ) (x : Entry) → i ≤ j → StandsFrom j es x → StandsFrom i es x
@@ -178,22 +179,20 @@ module _ {S Op : Type 0} (meaning : Meaning S Op) (laws : Lawful meaning) (o : O
         through : (a b c : ℕ) → a ≤ b → b ≤ c → a ≤ c
         through a b c l m = omega arith
 
-    replied_at : (reply : Reply) → meaning.replied s next ≡ Some reply → (m : State) × IsReplied (meaning.layout s) (meaning.room s) (content_of o) m (progress_of st.moved.log) name number call begun reply
+    replied_at : (reply : Reply) → replied meaning next ≡ Some reply → (m : State)
+        × IsReplied meaning.layout meaning.room (content_of o) m (progress_of st.moved.log) name number call begun reply
     replied_at reply is = subst (λ (u : Worker Op). IsRepliedIn meaning o st.moved.log u.name u.number u.doing) moved_worker st.replied reply is
 
-    trying_at : (reply : Reply) → meaning.replied s next ≡ Some reply → IsBelowTop (meaning.tally s next) →
-        AreSearchesBounded (meaning.layout s).kind (hand_of meaning s v.post.worker).tally (meaning.tally s next) × IsTryBounded (meaning.bound s) st.moved.post.tried None
+    trying_at : (reply : Reply) → replied meaning next ≡ Some reply → IsBelowTop (tally meaning next) →
+        AreSearchesBounded meaning.layout.kind (hand_of meaning v.post.worker).tally (tally meaning next) × IsTryBounded meaning.bound w.post.tried None
     trying_at reply is below =
-        let x = subst (λ (u : Worker Op). IsTrying meaning s st.moved.post u.doing) moved_worker st.trying below in (
-          subst (λ t. AreSearchesBounded (meaning.layout s).kind t (meaning.tally s next)) start_now x.0,
-          subst (λ a. IsTryBounded (meaning.bound s) st.moved.post.tried a) (none_asked (meaning.asked s next) ((laws.asks_or_replies s next).1 (subst IsSome (sym is) refl))) x.1,
+        let x = subst (λ (u : Worker Op). IsTrying meaning st.moved.post u.doing) moved_worker st.trying below in (
+          subst (λ t. AreSearchesBounded meaning.layout.kind t (tally meaning next)) start_now x.0,
+          subst (λ z. IsTryBounded meaning.bound z None) (sym (ap (λ z. z.post.tried) st.rests))
+              (subst (λ a. IsTryBounded meaning.bound st.moved.post.tried a) (asks_nothing (meaning.asked next) (meaning.reply next) reply is) x.1),
         )
-      where
-        none_asked : (a : Option Event) → IsNone a → a ≡ None
-        none_asked None h = refl
-        none_asked (Some d) h = absurd (false≢true (sym h))
 
-    pub comes_back : (reply : Reply) → meaning.replied s next ≡ Some reply → Ends meaning o call v w next reply (k + 1)
+    pub comes_back : (reply : Reply) → replied meaning next ≡ Some reply → Ends meaning o call v w next reply (k + 1)
     comes_back reply is =
         let rep = replied_at reply is in
         let late = late_of r.begun r.late in
@@ -204,57 +203,66 @@ module _ {S Op : Type 0} (meaning : Meaning S Op) (laws : Lawful meaning) (o : O
           same = same_now;
           worker = rested_worker (Some reply) is;
           hand = (
-            subst (λ (u : Worker Op). (hand_of meaning s u).name ≡ u.name) (rested_worker (Some reply) is) st.hand.0,
-            subst (λ (u : Worker Op). (hand_of meaning s u).number ≡ u.number) (rested_worker (Some reply) is) st.hand.1,
+            subst (λ (u : Worker Op). (hand_of meaning u).name ≡ u.name) (rested_worker (Some reply) is) st.hand.0,
+            subst (λ (u : Worker Op). (hand_of meaning u).number ≡ u.number) (rested_worker (Some reply) is) st.hand.1,
           );
           log = log_now;
           sees = seen_grows v.log w.log log_now;
           mine = mine_now (Some reply) is;
           events = events_now;
-          update = λ yes_is. stands_from (updates_seen w) (length (updates_seen v)) begun (update_of name number call) late (subst (λ es. StandsFrom begun es (update_of name number call)) seen (rep.1.update yes_is));
+          update = λ yes_is. stands_from (updates_seen w) (length (updates_seen v)) begun (update_of name number call) late
+              (subst (λ es. StandsFrom begun es (update_of name number call)) seen (rep.1.update yes_is));
           reads = st.reads;
           placed = placed_now;
           are = st.are ∙ ap reads_in (over_now (Some reply) is);
-          late = all_map (λ z. begun ≤ z.position) (λ z. length (updates_seen v) ≤ z.position) (λ z h. through (length (updates_seen v)) begun z.position late h) st.reads
+          late = all_map (λ z. begun ≤ z.position) (λ z. length (updates_seen v) ≤ z.position)
+              (λ z h. through (length (updates_seen v)) begun z.position late h) st.reads
               (subst (λ (u : Worker Op). AllByRecursion (λ z. first_in u.doing ≤ z.position) st.reads) moved_worker st.late);
           right = st.right;
           legal = st.legal;
-          history = legal_from (content_of o) 0 (updates_seen w) w.placed st.legal (all_weaker _ _ w.placed (right_from_start (content_of o) (updates_seen w)) st.right);
+          history = legal_from (content_of o) 0 (updates_seen w) w.placed st.legal
+              (all_weaker _ _ w.placed (right_from_start (content_of o) (updates_seen w)) st.right);
           state = rep.0;
-          bounded = subst (λ es. IsBounded (meaning.layout s) (meaning.room s) rep.0 es reply) seen rep.1.bounded;
-          tried = st.moved.post.tried;
+          bounded = subst (λ es. IsBounded meaning.layout meaning.room rep.0 es reply) seen rep.1.bounded;
           trying = trying_at reply is;
         }
       where
         through : (a b c : ℕ) → a ≤ b → b ≤ c → a ≤ c
         through a b c l m = omega arith
 
-  -- after an event of the call's operation, told its answer
-  module _ (call : Call) (y w : View S Op) (op : Op) (e : Event) (n : ℕ) (asked : meaning.asked s op ≡ Some e) (told : After meaning o y n w) where
-    pub stepped : (v : View S Op) (k : ℕ) → Runs meaning o call v y op k → Stepped meaning o y e n w
-    stepped v k r = told e (ap (λ (u : Worker Op). asked_by meaning s u) r.worker ∙ asked)
+  -- a call at which an event is asked may make it
+  pub record MayGoOn (start : Start) (call : Call) (v y : View S Op) (op : Op) (e : Event) (k : ℕ) : Type 0 where
+    pub may : MayEnter meaning start y.post
+    pub asked : asked_by meaning (entering meaning start y).post.worker ≡ Some e
+    pub within : IsWithin meaning.layout e
+    pub runs : Runs meaning o call v (entering meaning start y) op k
 
-    pub told_now : (v : View S Op) (k : ℕ) → Runs meaning o call v y op k → Told meaning s op n
-    told_now v k r = is_told call v y w op e n k r asked (stepped v k r)
+  pub may_go_on : (start : Start) (call : Call) (v y : View S Op) (op : Op) (e : Event) (k : ℕ) → meaning.asked op ≡ Some e →
+      IsUnderWayAt meaning o start call v y op k (replied meaning op) → MayGoOn start call v y op e k
+  may_go_on start call v y op e k here h =
+      let x = subst (IsUnderWayAt meaning o start call v y op k) (asks_still (meaning.asked op) (meaning.reply op) e here) h in
+      record { may = x.0; asked = ap (λ (u : Worker Op). asked_by meaning u) x.1.worker ∙ here; within = x.1.within e here; runs = x.1 }
 
-    pub goes_now : (v : View S Op) (k : ℕ) → Runs meaning o call v y op k → (a : Option Reply) → a ≡ meaning.replied s (meaning.taken s op n) → IfNone a (Runs meaning o call v w (meaning.taken s op n) (k + 1))
-    goes_now v k r None is = goes_further call v y w op e n k r asked (stepped v k r) (sym is)
-    goes_now v k r (Some reply) is = tt
+  -- after an event of the call's operation, told its answer, where the pass has begun what it waited to begin
+  module _ (start : Start) (call : Call) (v y w : View S Op) (op : Op) (e : Event) (n k : ℕ) (r : Runs meaning o call v (entering meaning start y) op k)
+      (asked : meaning.asked op ≡ Some e)
+      (told : After meaning o (entering meaning start y) n w) where
+    pub stepped : Stepped meaning o (entering meaning start y) e n w
+    stepped = told e (ap (λ (u : Worker Op). asked_by meaning u) r.worker ∙ asked)
 
-    pub ends_now : (v : View S Op) (k : ℕ) → Runs meaning o call v y op k → (a : Option Reply) → a ≡ meaning.replied s (meaning.taken s op n) → IfSome a (λ reply. Ends meaning o call v w (meaning.taken s op n) reply (k + 1))
-    ends_now v k r None is = tt
-    ends_now v k r (Some reply) is = comes_back call v y w op e n k r asked (stepped v k r) reply (sym is)
+    pub told_now : MayTake meaning op n
+    told_now = is_told call v (entering meaning start y) w op e n k r asked stepped
 
-    pub goes_all : (a : Option Reply) → a ≡ meaning.replied s (meaning.taken s op n) → IfNone a ((v : View S Op) (k : ℕ) → Runs meaning o call v y op k → Runs meaning o call v w (meaning.taken s op n) (k + 1))
-    goes_all None is = λ v k r. goes_further call v y w op e n k r asked (stepped v k r) (sym is)
-    goes_all (Some reply) is = tt
+    at_once : (a : Option Reply) → replied meaning (meaning.taken op n) ≡ a → IsUnderWayAt meaning o Go call v w (meaning.taken op n) (k + 1) a
+    at_once None is = (tt, goes_further call v (entering meaning start y) w op e n k r asked stepped is)
+    at_once (Some reply) is = comes_back call v (entering meaning start y) w op e n k r asked stepped reply is
 
-    pub ends_all : (a : Option Reply) → a ≡ meaning.replied s (meaning.taken s op n) → IfSome a (λ reply. (v : View S Op) (k : ℕ) → Runs meaning o call v y op k → Ends meaning o call v w (meaning.taken s op n) reply (k + 1))
-    ends_all None is = tt
-    ends_all (Some reply) is = λ v k r. comes_back call v y w op e n k r asked (stepped v k r) reply (sym is)
+    pub goes_at_call : IsUnderWayAt meaning o Go call v w (meaning.taken op n) (k + 1) (replied meaning (meaning.taken op n))
+    goes_at_call = at_once (replied meaning (meaning.taken op n)) refl
 
   -- the pass stays at its table
-  pub still_belongs : (home : Home S) → home.origin ≡ o → (before seat : Seat ℕ (View S Op)) (y : View S Op) (e : Event) (n : ℕ) → Belongs home before → seat.table_id ≡ before.table_id → seat.me.1 ≡ before.me.1 →
+  pub still_belongs : (home : Home S) → home.origin ≡ o → (before seat : Seat ℕ (View S Op)) (y : View S Op) (e : Event) (n : ℕ) → Belongs home before →
+      seat.table_id ≡ before.table_id → seat.me.1 ≡ before.me.1 →
       y.origin ≡ before.me.0.origin → y.names ≡ before.me.0.names → Stepped meaning o y e n seat.me.0 → Belongs home seat
   still_belongs home is before seat y e n b table slots origin names st = record {
     table = table ∙ b.table;

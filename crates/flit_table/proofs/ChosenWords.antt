@@ -23,7 +23,8 @@ same_mapped f g first (suc n) h =
     ap (λ x. x ∷ map f (range_with_len (first + 1) n)) (sym (h first (omega arith) (omega arith)))
     ∙ ap (λ xs. g first ∷ xs) (same_mapped f g (first + 1) n (λ j l k. h j (omega arith) (omega arith)))
 
-set_mapped : (f g : ℕ → ℕ) (first n w : ℕ) → w < n → ((j : ℕ) → j ≢ first + w → g j ≡ f j) → set (map f (range_with_len first n)) w (g (first + w)) ≡ map g (range_with_len first n)
+set_mapped : (f g : ℕ → ℕ) (first n w : ℕ) → w < n → ((j : ℕ) → j ≢ first + w → g j ≡ f j) →
+    set (map f (range_with_len first n)) w (g (first + w)) ≡ map g (range_with_len first n)
 set_mapped f g first zero w l h = absurd (omega arith)
 set_mapped f g first (suc n) zero l h =
     let e : first + 0 ≡ first = omega arith in
@@ -35,7 +36,8 @@ set_mapped f g first (suc n) zero l h =
 set_mapped f g first (suc n) (suc w) l h =
     let e : first + suc w ≡ first + 1 + w = omega arith in
     ap (λ x. x ∷ set (map f (range_with_len (first + 1) n)) w (g (first + suc w))) (sym (h first (λ q. omega (arith, q))))
-    ∙ ap (λ xs. g first ∷ xs) (ap (λ k. set (map f (range_with_len (first + 1) n)) w (g k)) e ∙ set_mapped f g (first + 1) n w (omega arith) (λ j ne. h j (λ q. ne (q ∙ e))))
+    ∙ ap (λ xs. g first ∷ xs) (ap (λ k. set (map f (range_with_len (first + 1) n)) w (g k)) e
+    ∙ set_mapped f g (first + 1) n w (omega arith) (λ j ne. h j (λ q. ne (q ∙ e))))
 
 any_more : (q : ℕ) (xs : List ℕ) (x : ℕ) → list_any (λ v. v == q) (xs ++ x ∷ []) ≡ list_any (λ v. v == q) xs || (x == q)
 any_more q [] x = by_test (x == q)

@@ -13,7 +13,7 @@ use Rattle.flit_model.specs.declared.calls.Entry.{Entry}
 use Rattle.flit_structure.specs.declared.workers.Worker.{Worker}
 use Rattle.flit_structure.specs.Moments.{Moment, IsAmong, IsNew, HaveDifferentNames, busy}
 use Rattle.flit_structure.specs.Meanings.{Meaning}
-use Rattle.flit_structure.specs.Lawful.{Lawful, IsSized, IsRecoverable, IsUnfinished}
+use Rattle.flit_structure.specs.Lawful.{Lawful, IsNamed, IsSized, IsRecoverable, IsUnfinished}
 use Rattle.flit_structure.proofs.Names.{all_left, all_right, all_at, all_map, same_worker, different_split}
 use Rattle.flit_structure.proofs.Waiting.{unfinished, one_each}
 use Rattle.flit_table.specs.declared.views.Logged.{Logged}
@@ -53,7 +53,8 @@ module _ (m : State) (n : ℕ) (words : length m.words ≡ n) (shadows : length 
   at_shadow : (i : ℕ) → i < n → slice_index xs (n + (i + 1)) ≡ shadow_at m i
   at_shadow i h =
       let e : n + (i + 1) ≡ suc (length m.words + i) = omega (arith, words) in
-      ap (λ (k : ℕ). get_or xs k 0) e ∙ (get_or-append-add m.words (m.shadows ++ (m.slots ++ m.counter ∷ [])) i 0 ∙ get_or_append_left m.shadows (m.slots ++ m.counter ∷ []) 0 i (omega (arith, shadows)))
+      ap (λ (k : ℕ). get_or xs k 0) e ∙ (get_or-append-add m.words (m.shadows ++ (m.slots ++ m.counter ∷ [])) i 0
+      ∙ get_or_append_left m.shadows (m.slots ++ m.counter ∷ []) 0 i (omega (arith, shadows)))
 
   pub image_is : (picks : ℕ → Bool) → image_in picks n xs ≡ crash_image picks m
   image_is picks =
@@ -84,10 +85,8 @@ module _ {Op : Type 0} where
   among_right : (us ws : List (Worker Op)) (u : Worker Op) → IsAmong ws u → IsAmong (us ++ ws) u
   among_right us ws u a = (us ++ a.0, a.1, ap (λ z. us ++ z) a.2 ∙ sym (append_assoc us a.0 (u ∷ a.1)))
 
-module _ {S Op : Type 0} (meaning : Meaning S Op) (laws : Lawful meaning) (o : Origin S) (m : State) (log : List Logged) (a b : List (View S Op)) (v : View S Op) (k : Kept meaning o m log (a ++ v ∷ b)) where
-  abbrev s : S
-  s = o.structure.value
-
+module _ {S Op : Type 0} (meaning : Meaning Op) (laws : Lawful meaning) (o : Origin S) (m : State) (log : List Logged) (a b : List (View S Op)) (v : View S Op)
+    (k : Kept meaning o m log (a ++ v ∷ b)) where
   abbrev us : List (Worker Op)
   us = all_workers (a ++ v ∷ b)
 
@@ -95,7 +94,7 @@ module _ {S Op : Type 0} (meaning : Meaning S Op) (laws : Lawful meaning) (o : O
   V = workers_of (posts_of v)
 
   abbrev M : Moment Op
-  M = moment_of meaning o m log us
+  M = moment_of o m log us
 
   us_is : us ≡ all_workers a ++ (V ++ all_workers b)
   us_is = all_joined a (v ∷ b)
@@ -103,41 +102,49 @@ module _ {S Op : Type 0} (meaning : Meaning S Op) (laws : Lawful meaning) (o : O
   here_among : (u : Worker Op) → IsAmong V u → IsAmong us u
   here_among u x = subst (λ z. IsAmong z u) (sym us_is) (among_right (all_workers a) (V ++ all_workers b) u (among_left V (all_workers b) u x))
 
-  named : (u : Worker Op) → IsAmong us u → (1 ≤ u.name) × (u.name ≤ (meaning.layout s).workers)
-  named u x = laws.named s M x.0 u x.1 (subst (λ z. meaning.holds s (moment_of meaning o m log z)) x.2 k.holds)
+  named : (u : Worker Op) → IsAmong us u → (1 ≤ u.name) × (u.name ≤ meaning.layout.workers)
+  named u x =
+      let is = all_at (IsNamed meaning) x.0 x.1 u (subst (AllByRecursion (IsNamed meaning)) x.2 (laws.named M k.holds).each) in
+      (is.least, is.most)
 
-  module _ (all : HasAllNames meaning s v) where
+  module _ (all : HasAllNames meaning v) where
     -- each worker is one of the pass's
     own : (u : Worker Op) → IsAmong us u → IsAmong V u
     own u x =
         let n = named u x in
         let r = has_worker u.name (posts_of v) (all u.name n.0 n.1) in
         let y = here_among r.0 r.1 in
-        subst (IsAmong V) (same_worker us y.0 y.1 x.0 x.1 r.0 u y.2 x.2 (laws.distinct s M k.holds) r.2) r.1
+        subst (IsAmong V) (same_worker us y.0 y.1 x.0 x.1 r.0 u y.2 x.2 (laws.named M k.holds).different r.2) r.1
 
     -- no other view has a name, or a worker
     apart : AllByRecursion (λ (u : Worker Op). IsNew u.name V) (all_workers a) × AllByRecursion (λ (u : Worker Op). IsNew u.name (all_workers b)) V
     apart =
-        let one = different_split (all_workers a) (V ++ all_workers b) (subst HaveDifferentNames us_is (laws.distinct s M k.holds)) in
-        let two = different_split V (all_workers b) one.1 in
-        (all_map (λ u. IsNew u.name (V ++ all_workers b)) (λ u. IsNew u.name V) (λ u h. all_left (λ z. z.name ≢ u.name) V (all_workers b) h) (all_workers a) one.2, two.2)
+        let one = different_split (all_workers a) (V ++ all_workers b) (subst HaveDifferentNames us_is (laws.named M k.holds).different) in
+        let two = different_split V (all_workers b) one.1 in (
+          all_map (λ u. IsNew u.name (V ++ all_workers b)) (λ u. IsNew u.name V) (λ u h. all_left (λ z. z.name ≢ u.name) V (all_workers b) h) (all_workers a)
+              one.2,
+          two.2,
+        )
 
     front_names : (u : Worker Op) → IsAmong (all_workers a) u → ⊥
     front_names u x =
         let y = among_left (all_workers a) (V ++ all_workers b) u x in
         let n = named u (subst (λ z. IsAmong z u) (sym us_is) y) in
-        not_new u.name (posts_of v) (all u.name n.0 n.1) (all_at (λ (z : Worker Op). IsNew z.name V) x.0 x.1 u (subst (AllByRecursion (λ (z : Worker Op). IsNew z.name V)) x.2 apart.0))
+        not_new u.name (posts_of v) (all u.name n.0 n.1) (all_at (λ (z : Worker Op). IsNew z.name V) x.0 x.1 u
+        (subst (AllByRecursion (λ (z : Worker Op). IsNew z.name V)) x.2 apart.0))
 
     back_names : (u : Worker Op) → IsAmong (all_workers b) u → ⊥
     back_names u x =
         let y = among_right (all_workers a) (V ++ all_workers b) u (among_right V (all_workers b) u x) in
         let n = named u (subst (λ z. IsAmong z u) (sym us_is) y) in
         let r = has_worker u.name (posts_of v) (all u.name n.0 n.1) in
-        let new : IsNew r.0.name (all_workers b) = all_at (λ (z : Worker Op). IsNew z.name (all_workers b)) r.1.0 r.1.1 r.0 (subst (AllByRecursion (λ (z : Worker Op). IsNew z.name (all_workers b))) r.1.2 apart.1) in
+        let new : IsNew r.0.name (all_workers b) = all_at (λ (z : Worker Op). IsNew z.name (all_workers b)) r.1.0 r.1.1 r.0
+        (subst (AllByRecursion (λ (z : Worker Op). IsNew z.name (all_workers b))) r.1.2 apart.1) in
         all_at (λ (z : Worker Op). z.name ≢ r.0.name) x.0 x.1 u (subst (AllByRecursion (λ (z : Worker Op). z.name ≢ r.0.name)) x.2 new) (sym r.2)
 
     -- a view that has no worker has seen nothing
-    empty_log : (N : Moment Op) (vs : List (View S Op)) → ((u : Worker Op) → IsAmong (all_workers vs) u → ⊥) → AllByRecursion (Agrees meaning o log N) vs → HasWhole log vs → log ≡ []
+    empty_log : (N : Moment Op) (vs : List (View S Op)) → ((u : Worker Op) → IsAmong (all_workers vs) u → ⊥) → AllByRecursion (Agrees meaning o log N) vs →
+        HasWhole log vs → log ≡ []
     empty_log N [] none h w = absurd w
     empty_log N (x ∷ vs) none h (inl e) = sym e ∙ h.0.bare (no_names x.names refl)
       where
@@ -145,7 +152,8 @@ module _ {S Op : Type 0} (meaning : Meaning S Op) (laws : Lawful meaning) (o : O
         no_names zero e2 = e2
         no_names (suc n) e2 =
             let some : 0 < x.names = omega (arith, e2) in
-            absurd (none x.post.worker (among_left (workers_of (posts_of x)) (all_workers vs) x.post.worker ([], workers_of (rest_of x), ap workers_of (posts_head x some))))
+            absurd (none x.post.worker (among_left (workers_of (posts_of x)) (all_workers vs) x.post.worker
+            ([], workers_of (rest_of x), ap workers_of (posts_head x some))))
     empty_log N (x ∷ vs) none h (inr w) = empty_log N vs (λ u y. none u (among_right (workers_of (posts_of x)) (all_workers vs) u y)) h.1 w
 
     nothing_seen : Continues v.log log → log ≡ [] → v.log ≡ log
@@ -166,7 +174,7 @@ module _ {S Op : Type 0} (meaning : Meaning S Op) (laws : Lawful meaning) (o : O
         in_three (inr (inl e)) = e
         in_three (inr (inr w)) = nothing_seen begins (empty_log M b back_names (all_right (Agrees meaning o log M) a (v ∷ b) k.each).1 w)
 
-    kept_here : (e : Entry) → IsUnfinished meaning s us e → IsUnfinished meaning s V e
+    kept_here : (e : Entry) → IsUnfinished meaning us e → IsUnfinished meaning V e
     kept_here e x = (x.0, x.1, x.2, x.3, x.4, own (busy x.0 x.1 x.2 x.3 x.4) x.5, x.6, x.7)
 
   pub closes_kept : (picks : ℕ → Bool) (image : List ℕ) → image ≡ crash_image picks m → Closes meaning o v picks image
@@ -178,24 +186,26 @@ module _ {S Op : Type 0} (meaning : Meaning S Op) (laws : Lawful meaning) (o : O
         workers = us;
         holds = k.holds;
         is_image = is;
-        recovers = subst (λ x. IsRecoverable (meaning.layout s) (content_of o) x (settled_in log ++ taken_updates (progress_of log) picks)) (sym is) (laws.crash s M picks k.holds);
-        unfinished = unfinished meaning laws s M k.holds;
-        one_each = one_each meaning laws s M k.holds;
+        recovers = subst (λ x. IsRecoverable meaning.layout (content_of o) x (settled_in log ++ taken_updates (progress_of log) picks)) (sym is)
+            (laws.crash M picks k.holds);
+        unfinished = unfinished meaning laws M k.holds;
+        one_each = one_each meaning laws M k.holds;
         sees = saying.seen_first meaning laws o m log a b v k;
         right = here.right;
         history = saying.history_legal meaning laws o m log a b v k;
         accounts = here.accounts;
         bounded = here.bounded;
-        gathered = λ all. (ap settled_in (sym (all_seen all)), λ word e waits. kept_here all e (unfinished meaning laws s M k.holds word e waits));
+        gathered = λ all. (ap settled_in (sym (all_seen all)), λ word e waits. kept_here all e (unfinished meaning laws M k.holds word e waits));
       }
 
 -- the same, of the words of the table as it is found
-pub closes : {S Op : Type 0} (meaning : Meaning S Op) (laws : Lawful meaning) (o : Origin S) (t : table.State ℕ (View S Op)) (id : ℕ) (v : View S Op) (picks : ℕ → Bool) (xs : List ℕ) → IsRuled meaning o t → get_elem? t.views id ≡ maybe.some v → t.words ≡ xs →
-    Closes meaning o v picks (image_in picks (words_of (meaning.layout o.structure.value)) xs)
+pub closes : {S Op : Type 0} (meaning : Meaning Op) (laws : Lawful meaning) (o : Origin S) (t : table.State ℕ (View S Op)) (id : ℕ) (v : View S Op)
+    (picks : ℕ → Bool) (xs : List ℕ) → IsRuled meaning o t → get_elem? t.views id ≡ maybe.some v → t.words ≡ xs →
+    Closes meaning o v picks (image_in picks (words_of meaning.layout) xs)
 closes {S} {Op} meaning laws o t id v picks xs ruled at same =
     let sp : Spot t.views id v = spot t.views id v at in
     let k : Kept meaning o ruled.state ruled.log (sp.front ++ v ∷ sp.back) = subst (Kept meaning o ruled.state ruled.log) sp.is ruled.kept in
-    let sized : IsSized (meaning.layout o.structure.value) ruled.state = laws.sized o.structure.value (moment_of meaning o ruled.state ruled.log (all_workers (sp.front ++ v ∷ sp.back))) k.holds in
-    let n = words_of (meaning.layout o.structure.value) in
+    let sized : IsSized meaning.layout ruled.state = laws.sized (moment_of o ruled.state ruled.log (all_workers (sp.front ++ v ∷ sp.back))) k.holds in
+    let n = words_of meaning.layout in
     closes_kept meaning laws o ruled.state ruled.log sp.front sp.back v k picks (image_in picks n xs)
     (ap (image_in picks n) (sym same ∙ ruled.laid) ∙ image_is ruled.state n sized.words sized.shadows picks)

@@ -14,7 +14,7 @@ use Rattle.flit_structure.specs.declared.workers.Doing.{Doing}
 use Rattle.flit_structure.specs.declared.workers.Doing.TheVariants.{Idle, Busy, Evicting}
 use Rattle.flit_structure.specs.declared.workers.Worker.{Worker}
 use Rattle.flit_structure.specs.Moments.{Moment, idle, sweeper}
-use Rattle.flit_structure.specs.Meanings.{Meaning, Happens, finishing, evicted, first_at}
+use Rattle.flit_structure.specs.Meanings.{Meaning, Happens, finishing, evicted, first_at, replied}
 use Rattle.flit_structure.specs.Lawful.{Lawful, StandsFrom, IsReplied}
 use Rattle.flit_table.specs.declared.views.Logged.{Logged}
 use Rattle.flit_table.specs.declared.views.Made.{Made}
@@ -31,7 +31,8 @@ use Rattle.flit_table.proofs.Beginning.{quiet_change}
 use Rattle.flit_table.proofs.Resting as resting
 use Rattle.flit_table.proofs.Replying as replying
 
-evict_account : {Op : Type 0} (settled : List Entry) (mine : List Made) (name number : ℕ) (evict : Evict) → Account {Op = Op} settled mine (sweeper name number evict) →
+evict_account : {Op : Type 0} (settled : List Entry) (mine : List Made) (name number : ℕ) (evict : Evict) →
+    Account {Op = Op} settled mine (sweeper name number evict) →
     Account {Op = Op} settled mine (idle name number evict.hand)
 evict_account {Op} settled mine name number evict a = record { more = a.more; is = a.is; one = by_more a.more a.one; below = a.below }
   where
@@ -40,13 +41,12 @@ evict_account {Op} settled mine name number evict a = record { more = a.more; is
     by_more (d ∷ []) h = h
     by_more (d ∷ (f ∷ fs)) h = h
 
-evict_item : {Op : Type 0} (settled : List Entry) (mine : List Made) (u : Worker Op) (name word : ℕ) → Account settled mine u → Account settled (mine ++ Evicted name word ∷ []) u
+evict_item : {Op : Type 0} (settled : List Entry) (mine : List Made) (u : Worker Op) (name word : ℕ) → Account settled mine u →
+    Account settled (mine ++ Evicted name word ∷ []) u
 evict_item settled mine u name word a = account_behind settled u mine (Evicted name word ∷ []) tt a
 
-module _ {S Op : Type 0} (meaning : Meaning S Op) (laws : Lawful meaning) (o : Origin S) (m : State) (log : List Logged) (a b : List (View S Op)) (v : View S Op) (some : 0 < v.names) (whole : v.log ≡ log) (k : Kept meaning o m log (a ++ v ∷ b)) where
-  abbrev s : S
-  s = o.structure.value
-
+module _ {S Op : Type 0} (meaning : Meaning Op) (laws : Lawful meaning) (o : Origin S) (m : State) (log : List Logged) (a b : List (View S Op)) (v : View S Op)
+    (some : 0 < v.names) (whole : v.log ≡ log) (k : Kept meaning o m log (a ++ v ∷ b)) where
   abbrev name : ℕ
   name = v.post.worker.name
 
@@ -60,13 +60,13 @@ module _ {S Op : Type 0} (meaning : Meaning S Op) (laws : Lawful meaning) (o : O
   B = behind_first v b
 
   abbrev at : Doing Op → Moment Op
-  at doing = moment_of meaning o m log (A ++ record { name = name; number = number; doing = doing } ∷ B)
+  at doing = moment_of o m log (A ++ record { name = name; number = number; doing = doing } ∷ B)
 
   abbrev view_with : Doing Op → List Made → List Placed → View S Op
   view_with doing items reads = resting.resting meaning laws o m log a b v some doing items reads
 
-  holds_here : meaning.holds s (at v.post.worker.doing)
-  holds_here = subst (λ us. meaning.holds s (moment_of meaning o m log us)) (all_around a b v some) k.holds
+  holds_here : meaning.holds (at v.post.worker.doing)
+  holds_here = subst (λ us. meaning.holds (moment_of o m log us)) (all_around a b v some) k.holds
 
   pub record RestsWith (from : ℕ) (doing : Doing Op) (items : List Made) : Type 0 where
     pub reads : List Placed
@@ -77,32 +77,41 @@ module _ {S Op : Type 0} (meaning : Meaning S Op) (laws : Lawful meaning) (o : O
   stays : (from : ℕ) (doing : Doing Op) → v.post.worker.doing ≡ doing → RestsWith from doing []
   stays from doing e = record {
     reads = [];
-    kept = subst (λ w. Kept meaning o m log (a ++ w ∷ b)) (λ i. record v { post = record v.post { worker = record v.post.worker { doing = e i } }; mine = sym (append-nil v.mine) i; placed = sym (append-nil v.placed) i }) k;
+    kept = subst (λ w. Kept meaning o m log (a ++ w ∷ b)) (λ i. record v {
+      post = record v.post { worker = record v.post.worker { doing = e i } };
+      mine =
+          sym (append-nil v.mine) i;
+      placed = sym (append-nil v.placed) i;
+    }) k;
     late = tt;
     are = refl;
   }
 
-  replied : (op : Op) (call : Call) (begun : Option ℕ) (reply : Reply) → v.post.worker.doing ≡ Busy op call begun → meaning.replied s op ≡ Some reply →
-      IsReplied (meaning.layout s) (meaning.room s) (content_of o) m (progress_of log) name number call (first_at 0 begun) reply
-  replied op call begun reply e is = laws.replies s (moment_of meaning o m log []) A name number op call begun reply B is (subst (λ d. meaning.holds s (at d)) e holds_here)
+  says : (op : Op) (call : Call) (begun : Option ℕ) (reply : Reply) → v.post.worker.doing ≡ Busy op call begun → replied meaning op ≡ Some reply →
+      IsReplied meaning.layout meaning.room (content_of o) m (progress_of log) name number call (first_at 0 begun) reply
+  says op call begun reply e is = laws.replies (moment_of o m log []) A name number op call begun reply B is (subst (λ d. meaning.holds (at d)) e holds_here)
 
-  call_rests : (op : Op) (call : Call) (begun : Option ℕ) → v.post.worker.doing ≡ Busy op call begun → (r : Option Reply) → meaning.replied s op ≡ r →
-      RestsWith (first_at 0 begun) (rests_after_call (Busy op call begun) (meaning.finished s op) r) (call_over name number call r)
+  call_rests : (op : Op) (call : Call) (begun : Option ℕ) → v.post.worker.doing ≡ Busy op call begun → (r : Option Reply) → replied meaning op ≡ r →
+      RestsWith (first_at 0 begun) (rests_after_call (Busy op call begun) (meaning.finished op) r) (call_over name number call r)
   call_rests op call begun e None is = stays (first_at 0 begun) (Busy op call begun) e
   call_rests op call begun e (Some reply) is =
-      let hand = meaning.finished s op in
+      let hand = meaning.finished op in
       let items = call_over name number call (Some reply) in
-      let r = replied op call begun reply e is in
-      let placed = replying.replied_reads (settled_in log) v.mine name number op call begun hand (meaning.layout s) (meaning.room s) (content_of o) m (progress_of log) (first_at 0 begun) reply refl r in
-      let happens : Happens meaning s (Some name) (at v.post.worker.doing) (at (Idle hand)) =
-      subst (λ d. Happens meaning s (Some name) (at d) (at (Idle hand))) (sym e) (finishing (moment_of meaning o m log []) A name number op call begun reply B is) in
+      let r = says op call begun reply e is in
+      let placed = replying.replied_reads (settled_in log) v.mine name number op call begun hand meaning.layout meaning.room (content_of o) m (progress_of log)
+      (first_at 0 begun) reply refl r in
+      let happens : Happens meaning (Some name) (at v.post.worker.doing) (at (Idle hand)) =
+      subst (λ d. Happens meaning (Some name) (at d) (at (Idle hand))) (sym e) (finishing (moment_of o m log []) A name number op call begun reply B is) in
       let comes : resting.Comes meaning o log (at (Idle hand)) v (Idle hand) items placed.reads = record {
         named = (refl, tt);
-        account = subst (λ d. Account (settled_in log) v.mine (record { name = name; number = number; doing = d }) → Account {Op = Op} (settled_in log) (v.mine ++ items) (idle name number hand)) (sym e)
-            (replying.replied_account (settled_in log) v.mine name number op call begun hand (meaning.layout s) (meaning.room s) (content_of o) m (progress_of log) (first_at 0 begun) reply refl r);
+        account = subst (λ d. Account (settled_in log) v.mine (record { name = name; number = number; doing = d }) →
+            Account {Op = Op} (settled_in log) (v.mine ++ items) (idle name number hand)) (sym e)
+            (replying.replied_account (settled_in log) v.mine name number op call begun hand meaning.layout meaning.room (content_of o) m (progress_of log)
+            (first_at 0 begun) reply refl r);
         licence = tt;
         settled = subst (λ l. AllByRecursion (StandsFrom 0 (settled_in l)) (updates_in items)) (sym whole)
-            (replying.replied_settled (settled_in log) v.mine name number op call begun hand (meaning.layout s) (meaning.room s) (content_of o) m (progress_of log) (first_at 0 begun) reply refl r);
+            (replying.replied_settled (settled_in log) v.mine name number op call begun hand meaning.layout meaning.room (content_of o) m (progress_of log)
+            (first_at 0 begun) reply refl r);
         are = placed.are;
         right = subst (λ l. AllByRecursion (IsRightAt (content_of o) (settled_in l)) placed.reads) (sym whole) placed.right;
         bounded = (r.bounded, tt);
@@ -120,11 +129,12 @@ module _ {S Op : Type 0} (meaning : Meaning S Op) (laws : Lawful meaning) (o : O
   evict_rests evict e (Some event) is = stays 0 (Evicting evict) e
   evict_rests evict e None is =
       let items = evict_over name evict None in
-      let happens : Happens meaning s (Some name) (at v.post.worker.doing) (at (Idle evict.hand)) =
-      subst (λ d. Happens meaning s (Some name) (at d) (at (Idle evict.hand))) (sym e) (evicted (moment_of meaning o m log []) A name number evict B) in
+      let happens : Happens meaning (Some name) (at v.post.worker.doing) (at (Idle evict.hand)) =
+      subst (λ d. Happens meaning (Some name) (at d) (at (Idle evict.hand))) (sym e) (evicted (moment_of o m log []) A name number evict B) in
       let comes : resting.Comes meaning o log (at (Idle evict.hand)) v (Idle evict.hand) items [] = record {
         named = (refl, tt);
-        account = subst (λ d. Account (settled_in log) v.mine (record { name = name; number = number; doing = d }) → Account {Op = Op} (settled_in log) (v.mine ++ items) (idle name number evict.hand)) (sym e)
+        account = subst (λ d. Account (settled_in log) v.mine (record { name = name; number = number; doing = d }) →
+            Account {Op = Op} (settled_in log) (v.mine ++ items) (idle name number evict.hand)) (sym e)
             (λ x. evict_item (settled_in log) v.mine (idle name number evict.hand) name evict.word (evict_account (settled_in log) v.mine name number evict x));
         licence = tt;
         settled = tt;
@@ -140,11 +150,11 @@ module _ {S Op : Type 0} (meaning : Meaning S Op) (laws : Lawful meaning) (o : O
         are = refl;
       }
 
-  rests_at : (doing : Doing Op) → v.post.worker.doing ≡ doing → RestsWith (first_in doing) (rests meaning s doing) (over meaning s name number doing)
+  rests_at : (doing : Doing Op) → v.post.worker.doing ≡ doing → RestsWith (first_in doing) (rests meaning doing) (over meaning name number doing)
   rests_at (Idle hand) e = stays 0 (Idle hand) e
-  rests_at (Busy op call begun) e = call_rests op call begun e (meaning.replied s op) refl
+  rests_at (Busy op call begun) e = call_rests op call begun e (replied meaning op) refl
   rests_at (Evicting evict) e = evict_rests evict e (evict_asked evict) refl
 
   -- with the reads that have their places now
-  pub rests_kept : RestsWith (first_in v.post.worker.doing) (rests meaning s v.post.worker.doing) (over meaning s name number v.post.worker.doing)
+  pub rests_kept : RestsWith (first_in v.post.worker.doing) (rests meaning v.post.worker.doing) (over meaning name number v.post.worker.doing)
   rests_kept = rests_at v.post.worker.doing refl

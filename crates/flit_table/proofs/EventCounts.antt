@@ -1,5 +1,5 @@
 -- The number of events of each name.
-use Rattle.std.proofs.Common.{◌≡◌, ◌≢◌, ℕ, zero, suc, ◌+◌, ◌==◌, eqb, Bool, true, false, cond, List, [], ◌∷◌, ◌++◌, count_by, replicate, refl, sym, ◌∙◌, ap, arith, ne_eqb}
+use Rattle.std.proofs.Common.{◌≡◌, ◌≢◌, ℕ, zero, suc, ◌+◌, ◌==◌, eqb, Bool, ◌++◌, count_by, replicate, refl, sym, ◌∙◌, ap, arith, ne_eqb}
 use Rattle.std.proofs.lemmas.Bool.{eq-eqb}
 use Rattle.std.proofs.lemmas.List.Elements.{filter-append}
 use Rattle.flit_model.proofs.Counting.{count_by-cons_yes, count_by-cons_no, count_by-append}
@@ -16,7 +16,8 @@ own_events name (suc n) = count_by-cons_yes (is_of name) name (replicate n name)
 
 other_events : (name other n : ℕ) → other ≢ name → count_by (is_of other) (replicate n name) ≡ 0
 other_events name other zero apart = refl
-other_events name other (suc n) apart = count_by-cons_no (is_of other) name (replicate n name) (ne_eqb name other (λ e. apart (sym e))) ∙ other_events name other n apart
+other_events name other (suc n) apart = count_by-cons_no (is_of other) name (replicate n name) (ne_eqb name other (λ e. apart (sym e)))
+    ∙ other_events name other n apart
 
 module _ {S Op : Type 0} where
   pub events_rise : (v w : View S Op) (name made : ℕ) → w.events ≡ replicate made name ++ v.events → events_of name w ≡ made + events_of name v

@@ -26,12 +26,10 @@ no_reads : (reads : List Placed) → map (λ z. z.entry) reads ≡ [] → reads 
 no_reads [] h = refl
 no_reads (x ∷ reads) h = absurd (cc)
 
-module _ {S Op : Type 0} (meaning : Meaning S Op) (laws : Lawful meaning) (o : Origin S) where
-  abbrev s : S
-  s = o.structure.value
-
+module _ {S Op : Type 0} (meaning : Meaning Op) (laws : Lawful meaning) (o : Origin S) where
   -- an event of a worker at an evict, of the view y that began as v
-  module _ (v y w : View S Op) (evict : Evict) (e : Event) (n : ℕ) (same : IsSamePass v y) (worker : y.post.worker ≡ sweeper v.post.worker.name v.post.worker.number evict) (log : Continues v.log y.log) (st : Stepped meaning o y e n w) where
+  module _ (v y w : View S Op) (evict : Evict) (e : Event) (n : ℕ) (same : IsSamePass v y)
+      (worker : y.post.worker ≡ sweeper v.post.worker.name v.post.worker.number evict) (log : Continues v.log y.log) (st : Stepped meaning o y e n w) where
     abbrev name : ℕ
     name = v.post.worker.name
 
@@ -39,18 +37,24 @@ module _ {S Op : Type 0} (meaning : Meaning S Op) (laws : Lawful meaning) (o : O
     number = v.post.worker.number
 
     moved_worker : st.moved.post.worker ≡ sweeper name number (evict_taken evict n)
-    moved_worker = ap (λ z. z.post.worker) st.moves ∙ ap (λ (u : Worker Op). record u { doing = goes_on meaning s (length (settled_in (y.log ++ st.between))) u.doing n }) worker
+    moved_worker = ap (λ z. z.post.worker) st.moves ∙ ap (λ (u : Worker Op). record u
+        { doing = goes_on meaning (length (settled_in (y.log ++ st.between))) u.doing n }) worker
 
-    pub rested_worker : w.post.worker ≡ record { name = name; number = number; doing = rests meaning s (sweeper {Op = Op} name number (evict_taken evict n)).doing }
-    rested_worker = ap (λ z. z.post.worker) st.rests ∙ ap (λ (u : Worker Op). record u { doing = rests meaning s u.doing }) moved_worker
+    pub rested_worker : w.post.worker ≡ record {
+      name = name;
+      number = number;
+      doing =
+          rests meaning (sweeper {Op = Op} name number (evict_taken evict n)).doing;
+    }
+    rested_worker = ap (λ z. z.post.worker) st.rests ∙ ap (λ (u : Worker Op). record u { doing = rests meaning u.doing }) moved_worker
 
-    over_now : over_at meaning s st.moved.post ≡ over meaning s name number (sweeper {Op = Op} name number (evict_taken evict n)).doing
-    over_now = ap (λ (u : Worker Op). over meaning s u.name u.number u.doing) moved_worker
+    over_now : over_at meaning st.moved.post ≡ over meaning name number (sweeper {Op = Op} name number (evict_taken evict n)).doing
+    over_now = ap (λ (u : Worker Op). over meaning u.name u.number u.doing) moved_worker
 
-    pub mine_now : w.mine ≡ y.mine ++ over meaning s name number (sweeper {Op = Op} name number (evict_taken evict n)).doing
-    mine_now = ap (λ z. z.mine) st.rests ∙ ap (λ z. z ++ over_at meaning s st.moved.post) (ap (λ z. z.mine) st.moves) ∙ ap (λ z. y.mine ++ z) over_now
+    pub mine_now : w.mine ≡ y.mine ++ over meaning name number (sweeper {Op = Op} name number (evict_taken evict n)).doing
+    mine_now = ap (λ z. z.mine) st.rests ∙ ap (λ z. z ++ over_at meaning st.moved.post) (ap (λ z. z.mine) st.moves) ∙ ap (λ z. y.mine ++ z) over_now
 
-    pub placed_now : reads_in (over meaning s name number (sweeper {Op = Op} name number (evict_taken evict n)).doing) ≡ [] → w.placed ≡ y.placed
+    pub placed_now : reads_in (over meaning name number (sweeper {Op = Op} name number (evict_taken evict n)).doing) ≡ [] → w.placed ≡ y.placed
     placed_now none =
         ap (λ z. z.placed) st.rests ∙ ap (λ z. z ++ st.reads) (ap (λ z. z.placed) st.moves)
         ∙ ap (λ z. y.placed ++ z) (no_reads st.reads (st.are ∙ ap reads_in over_now ∙ none)) ∙ append-nil y.placed
@@ -73,12 +77,12 @@ module _ {S Op : Type 0} (meaning : Meaning S Op) (laws : Lawful meaning) (o : O
     events_now = ap (λ z. z.events) st.rests ∙ ap (λ z. z.events) st.moves ∙ ap (λ (u : Worker Op). u.name ∷ y.events) worker
 
   -- the first event
-  module _ (word n : ℕ) (v w : View S Op) (told : After meaning o (entering meaning s (Sweep word) v) n w) where
+  module _ (word n : ℕ) (v w : View S Op) (told : After meaning o (entering meaning (Sweep word) v) n w) where
     abbrev y : View S Op
-    y = entering meaning s (Sweep word) v
+    y = entering meaning (Sweep word) v
 
     abbrev evict : Evict
-    evict = evict_started (hand_of meaning s v.post.worker) word
+    evict = evict_started (hand_of meaning v.post.worker) word
 
     pub first_stepped : Stepped meaning o y (Load word) n w
     first_stepped = told (Load word) refl
@@ -102,10 +106,10 @@ module _ {S Op : Type 0} (meaning : Meaning S Op) (laws : Lawful meaning) (o : O
   -- the second
   module _ (word found n : ℕ) (v y w : View S Op) (r : Sweeps meaning o word v y found) (told : After meaning o y n w) where
     abbrev halfway : Evict
-    halfway = record { hand = hand_of meaning s v.post.worker; word = word; at = WritesBack found }
+    halfway = record { hand = hand_of meaning v.post.worker; word = word; at = WritesBack found }
 
     pub second_stepped : Stepped meaning o y (Persist word (bare_of found)) n w
-    second_stepped = told (Persist word (bare_of found)) (ap (λ (u : Worker Op). asked_by meaning s u) r.worker)
+    second_stepped = told (Persist word (bare_of found)) (ap (λ (u : Worker Op). asked_by meaning u) r.worker)
 
     pub evicts : Evicts meaning o word v w
     evicts = record {
@@ -113,7 +117,8 @@ module _ {S Op : Type 0} (meaning : Meaning S Op) (laws : Lawful meaning) (o : O
       worker = rested_worker v y w halfway (Persist word (bare_of found)) n r.same r.worker r.log second_stepped;
       log = log_now v y w halfway (Persist word (bare_of found)) n r.same r.worker r.log second_stepped;
       sees = seen_grows v.log w.log (log_now v y w halfway (Persist word (bare_of found)) n r.same r.worker r.log second_stepped);
-      mine = mine_now v y w halfway (Persist word (bare_of found)) n r.same r.worker r.log second_stepped ∙ ap (λ z. z ++ Evicted v.post.worker.name word ∷ []) r.mine;
+      mine = mine_now v y w halfway (Persist word (bare_of found)) n r.same r.worker r.log second_stepped
+          ∙ ap (λ z. z ++ Evicted v.post.worker.name word ∷ []) r.mine;
       placed = placed_now v y w halfway (Persist word (bare_of found)) n r.same r.worker r.log second_stepped refl ∙ r.placed;
       events = events_now v y w halfway (Persist word (bare_of found)) n r.same r.worker r.log second_stepped ∙ ap (λ z. v.post.worker.name ∷ z) r.events;
       right = second_stepped.right;

@@ -14,13 +14,24 @@ use Rattle.flit_table.specs.Rule.{IsRuled}
 use Rattle.flit_table.specs.Steps.{Belongs, Home, IsTableOf, carried}
 use Rattle.flit_table.proofs.TableSteps.{joins}
 
-module _ {S Op : Type 0} (meaning : Meaning S Op) (laws : Lawful meaning) (key : Origin S) (id : TableId) (s : S) (inside : IsTableOf (meaning.layout s) s key id) where
+module _ {S Op : Type 0} (meanings : S → Meaning Op) (lawful : (x : S) → Lawful (meanings x)) (key : Origin S) (id : TableId) (s : S)
+    (inside : IsTableOf (meanings s).layout s key id) where
   abbrev pub JoinAsked : Seat ℕ (View S Op) → Seat ℕ (View S Op) → Start → Type 0
   JoinAsked seat other start =
       (seat.table_id ≡ id) × (other.table_id ≡ id) × (other.me.1 ≡ []) × (0 < id.words)
-      × table.Joins (IsRuled meaning key) seat.id seat.me.0 other.id other.me.0 (both seat.me.0 (carried meaning start other.me.0)) spent
+      × table.Joins (IsRuled (meanings key.structure.value) key) seat.id seat.me.0 other.id other.me.0 (both seat.me.0 (carried meanings start other.me.0))
+      spent
 
-  pub join_asked : (home : Home S) → record { origin = key; table_id = id } ≡ home → (seat other : Seat ℕ (View S Op)) (start : Start) → Belongs home seat → Belongs home other → MayEnter meaning home.origin.structure.value start other.me.0.post → JoinAsked seat other start
+  pub join_asked : (home : Home S) → record { origin = key; table_id = id } ≡ home → (seat other : Seat ℕ (View S Op)) (start : Start) → Belongs home seat →
+      Belongs home other → MayEnter (meanings home.origin.structure.value) start other.me.0.post → JoinAsked seat other start
   join_asked home is seat other start =
-      subst (λ (h : Home S). Belongs h seat → Belongs h other → MayEnter meaning h.origin.structure.value start other.me.0.post → JoinAsked seat other start) is
-      (λ b d may. (b.table, d.table, d.slots, omega (arith, inside.words), joins meaning laws key seat.id other.id seat.me.0 other.me.0 start b.names d.names d.origin may))
+      subst (λ (h : Home S). Belongs h seat → Belongs h other → MayEnter (meanings h.origin.structure.value) start other.me.0.post → JoinAsked seat other start)
+      is
+      (λ b d may. (
+        b.table,
+        d.table,
+        d.slots,
+        omega (arith, inside.words),
+        joins meanings lawful key seat.id other.id seat.me.0 other.me.0 start b.names d.names
+            d.origin may,
+      ))

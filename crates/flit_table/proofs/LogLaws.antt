@@ -25,7 +25,8 @@ persist_follows : (p : Progress) (word : ℕ) (rises : Bool) →
 persist_follows p word true = refl
 persist_follows p word false = refl
 
-pub event_follows : (p : Progress) (m : State) (e : Event) (effect : Option Entry) → progress_from p (logged_by e (answer m e) effect) ≡ progress_after p m e effect
+pub event_follows : (p : Progress) (m : State) (e : Event) (effect : Option Entry) →
+    progress_from p (logged_by e (answer m e) effect) ≡ progress_after p m e effect
 event_follows p m (Load word) effect = refl
 event_follows p m (ReadTag slot) effect = refl
 event_follows p m (Raise slot) effect = refl
@@ -35,7 +36,8 @@ event_follows p m (Persist word kept) effect = persist_follows p word (nat_lt (s
 event_follows p m (Store word to) effect = refl
 event_follows p m Draw effect = refl
 
-pub log_follows : (log : List Logged) (m : State) (e : Event) (effect : Option Entry) → progress_of (log ++ logged_by e (answer m e) effect) ≡ progress_after (progress_of log) m e effect
+pub log_follows : (log : List Logged) (m : State) (e : Event) (effect : Option Entry) →
+    progress_of (log ++ logged_by e (answer m e) effect) ≡ progress_after (progress_of log) m e effect
 log_follows log m e effect = progress_joined nothing_made log (logged_by e (answer m e) effect) ∙ event_follows (progress_of log) m e effect
 
 -- settled updates stay

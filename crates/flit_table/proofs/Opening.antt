@@ -1,10 +1,10 @@
 -- The table as it is opened.
-use Rattle.std.proofs.Common.{◌≡◌, ◌≢◌, inl, ℕ, zero, suc, ◌+◌, ◌<◌, ◌≤◌, List, [], ◌∷◌, ◌++◌, refl, sym, ◌∙◌, ap, subst, arith, append-nil, Some}
+use Rattle.std.proofs.Common.{◌≡◌, ◌≢◌, inl, ℕ, zero, suc, ◌+◌, ◌<◌, ◌≤◌, List, [], ◌∷◌, ◌++◌, refl, sym, ◌∙◌, ap, subst, arith, append-nil, Some, None}
 use Rattle.std.specs.List.{AllByRecursion}
 use Rattle.flit_model.specs.States.{state_from}
 use Rattle.flit_structure.specs.declared.workers.Worker.{Worker}
 use Rattle.flit_structure.specs.Moments.{Moment, IsNew}
-use Rattle.flit_structure.specs.Meanings.{Meaning}
+use Rattle.flit_structure.specs.Meanings.{Meaning, hiring}
 use Rattle.flit_structure.specs.Lawful.{Lawful}
 use Rattle.flit_table.specs.declared.views.Origin.{Origin}
 use Rattle.flit_table.specs.declared.views.Post.{Post}
@@ -28,30 +28,29 @@ module _ (Op : Type 0) where
   new_accounts first zero = tt
   new_accounts first (suc n) = (record { more = []; is = refl; one = tt; below = tt }, new_accounts (suc first) n)
 
-module _ {S Op : Type 0} (meaning : Meaning S Op) (laws : Lawful meaning) (o : Origin S) (opens : meaning.opens o.structure.value (opening_of o)) where
-  abbrev s : S
-  s = o.structure.value
-
+module _ {S Op : Type 0} (meaning : Meaning Op) (laws : Lawful meaning) (o : Origin S) (opens : meaning.opens (opening_of o)) where
   abbrev M : List (Worker Op) → Moment Op
-  M us = moment_of meaning o (state_from (meaning.layout s) (opening_of o).words) [] us
+  M us = moment_of o (state_from meaning.layout (opening_of o).words) [] us
 
-  hires : (n first : ℕ) → 1 ≤ first → first + n ≤ (meaning.layout s).workers + 1 → meaning.holds s (M (workers_of (new_posts first n)))
-  hires zero first low high = (laws.opens s (opening_of o) opens).2
+  hires : (n first : ℕ) → 1 ≤ first → first + n ≤ meaning.layout.workers + 1 → meaning.holds (M (workers_of (new_posts first n)))
+  hires zero first low high = (laws.opens (opening_of o) opens).2
   hires (suc n) first low high =
-      laws.hires s (M (workers_of (new_posts (suc first) n))) first low (omega arith) (new_name Op first (suc first) n (omega arith))
+      let before = M (workers_of (new_posts (suc first) n)) in
+      laws.keeps None before (M (workers_of (new_posts first (suc n)))) (hiring before first low (omega arith) (new_name Op first (suc first) n (omega arith)))
       (hires n (suc first) (omega arith) (omega arith))
 
-  licences : (N : Moment Op) (first n : ℕ) → AllByRecursion (IsLicensed meaning s N) (new_posts first n)
+  licences : (N : Moment Op) (first n : ℕ) → AllByRecursion (IsLicensed meaning N) (new_posts first n)
   licences N first zero = tt
   licences N first (suc n) = (tt, licences N (suc first) n)
 
-  pub opens_kept : Kept meaning o (state_from (meaning.layout s) (opening_of o).words) [] (first_view meaning o ∷ [])
+  pub opens_kept : Kept meaning o (state_from meaning.layout (opening_of o).words) [] (first_view meaning o ∷ [])
   opens_kept =
-      let n = (meaning.layout s).workers in
+      let n = meaning.layout.workers in
       let posts = posts_new Op n 1 in
-      let is : workers_of (new_posts 1 n) ≡ workers_of (posts_with {Op = Op} n 1 (new_post 1) []) ++ [] = sym (append-nil (workers_of (posts_with n 1 (new_post 1) [])) ∙ ap workers_of posts) in
+      let is : workers_of (new_posts 1 n) ≡ workers_of (posts_with {Op = Op} n 1 (new_post 1) []) ++ [] =
+      sym (append-nil (workers_of (posts_with n 1 (new_post 1) [])) ∙ ap workers_of posts) in
       record {
-        holds = subst (λ us. meaning.holds s (M us)) is (hires n 1 (omega arith) (omega arith));
+        holds = subst (λ us. meaning.holds (M us)) is (hires n 1 (omega arith) (omega arith));
         each = (
           record {
             opened = λ p e. same_origin p o e;
@@ -61,7 +60,8 @@ module _ {S Op : Type 0} (meaning : Meaning S Op) (laws : Lawful meaning) (o : O
             items = tt;
             counted = tt;
             accounts = subst (AllByRecursion (λ p. Account [] [] p.worker)) (sym posts) (new_accounts Op 1 n);
-            licensed = subst (AllByRecursion (IsLicensed meaning s (M (workers_of (posts_with {Op = Op} n 1 (new_post 1) []) ++ [])))) (sym posts) (licences (M (workers_of (posts_with {Op = Op} n 1 (new_post 1) []) ++ [])) 1 n);
+            licensed = subst (AllByRecursion (IsLicensed meaning (M (workers_of (posts_with {Op = Op} n 1 (new_post 1) []) ++ [])))) (sym posts)
+                (licences (M (workers_of (posts_with {Op = Op} n 1 (new_post 1) []) ++ [])) 1 n);
             settled = tt;
             reads = refl;
             right = tt;

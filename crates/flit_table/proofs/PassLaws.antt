@@ -1,76 +1,139 @@
--- What a pass holds, before and after its calls.
-use Rattle.std.proofs.Common.{◌≡◌, ℕ, ◌+◌, ◌<◌, ◌≤◌, refl, sym, ◌∙◌, ap, subst, arith, Option, Some, None, IsSome}
+-- What a pass holds, before, in and after its calls.
+use Rattle.std.proofs.Common.{◌≡◌, ℕ, ◌+◌, ◌<◌, ◌≤◌, refl, sym, ◌∙◌, ap, subst, arith, false, Some, None, IsSome}
 use Rattle.std.proofs.lemmas.Bool.{false≢true}
-use Rattle.atomic_table.specs.declared.shared.Seat.{Seat}
 use Rattle.flit_model.specs.declared.calls.Call.{Call}
 use Rattle.flit_model.specs.declared.calls.Reply.{Reply}
 use Rattle.flit_model.specs.declared.calls.Tally.{Tally}
-use Rattle.flit_pv.specs.declared.hands.Hand.{Hand}
-use Rattle.flit_structure.specs.declared.workers.Doing.TheVariants.{Idle}
+use Rattle.flit_pv.specs.declared.hands.Hand.{Hand as A_hand}
 use Rattle.flit_structure.specs.declared.workers.Worker.{Worker}
-use Rattle.flit_structure.specs.Meanings.{Meaning, IsServed}
+use Rattle.flit_structure.specs.Meanings.{Meaning, MayStart, IsServed, hand_in, hand_of, tally}
+use Rattle.flit_structure.specs.Lawful.{Lawful}
 use Rattle.flit_table.specs.declared.passes.Holder.{Holder}
-use Rattle.flit_table.specs.declared.views.Origin.{Origin}
-use Rattle.flit_table.specs.declared.views.Start.TheVariants.{Begin}
-use Rattle.flit_table.specs.declared.views.View.{View}
-use Rattle.flit_table.specs.Moves.{MayEnter}
-use Rattle.flit_table.specs.Steps.{Belongs, Home}
-use Rattle.flit_table.specs.Calls.{IsAt, IsHeld, Ends}
+use Rattle.flit_table.specs.declared.passes.Rest.{Rest}
+use Rattle.flit_table.specs.declared.passes.Rest.TheVariants.{Hand, Ended, Stopped}
+use Rattle.flit_table.specs.declared.views.Post.{Post}
+use Rattle.flit_table.specs.declared.views.Start.{Start}
+use Rattle.flit_table.specs.declared.views.Start.TheVariants.{Go, Begin, Sweep}
+use Rattle.flit_table.specs.Moves.{MayEnter, entered, entering}
+use Rattle.flit_table.specs.Steps.{Home}
+use Rattle.flit_table.specs.Calls.{Ends, Runs}
+use Rattle.flit_table.specs.Passes.{is_stopped, hand_kept, MayBeginIn, begun_in, IsIdle, IsAt, IsHeld, IsCalling, tally_in}
+use Rattle.flit_table.proofs.CallSteps.{begins_runs}
 
-module _ {S Op : Type 0} (meaning : Meaning S Op) (s : S) where
-  -- a pass that isn't stopped
-  pub record IsFree (u : Worker Op) (calls : ℕ) (found : Option Hand) (unbegun : Option Call) : Type 0 where
-    pub hand : Hand
-    pub is : found ≡ Some hand
-    pub begun : unbegun ≡ None
-    pub rests : u.doing ≡ Idle hand
-    pub name : hand.name ≡ u.name
-    pub number : hand.number ≡ u.number
-    pub counted : calls ≡ u.number
+module _ {Op : Type 0} (meaning : Meaning Op) where
+  -- the hand of a pass that isn't stopped
+  pub record HasHand (u : Worker Op) (begun : ℕ) (rest : Rest Op) : Type 0 where
+    pub hand : A_hand
+    pub kept : hand_kept meaning rest ≡ Some hand
+    pub idle : IsIdle u begun hand
 
-  pub is_free : (u : Worker Op) (calls : ℕ) (tally : Tally) (found : Option Hand) (unbegun : Option Call) → IsSome found → IsAt meaning s u calls tally found unbegun → IsFree u calls found unbegun
-  is_free u calls tally (Some hand) None some at = record { hand = hand; is = refl; begun = refl; rests = at.0; name = at.1; number = at.2; counted = at.3 }
-  is_free u calls tally (Some hand) (Some call) some at = absurd at
-  is_free u calls tally None unbegun some at = absurd (false≢true some)
+  has_hand : (p : Post Op) (begun : ℕ) (rest : Rest Op) → is_stopped rest ≡ false → IsAt meaning p begun rest → HasHand p.worker begun rest
+  has_hand p begun (Hand hand) free at = record { hand = hand; kept = refl; idle = at }
+  has_hand p begun (Ended op) free at = record { hand = meaning.finished op; kept = refl; idle = at.1 }
+  has_hand p begun (Stopped so_far start) free at = absurd (false≢true (sym free))
 
-  pub free_of : (home : Home S) (h : Holder S Op) → IsHeld meaning s home h → IsSome h.hand → IsFree h.seat.me.0.post.worker h.calls h.hand h.unbegun
-  free_of home h held some = is_free h.seat.me.0.post.worker h.calls h.tally h.hand h.unbegun some held.at
+  may_begin_at : (p : Post Op) (begun : ℕ) (rest : Rest Op) (call : Call) → is_stopped rest ≡ false → IsAt meaning p begun rest →
+      MayEnter meaning (Begin call) p → MayBeginIn meaning rest call
+  may_begin_at p begun (Hand hand) call free at may = subst (λ h. MayStart meaning.layout h call) (ap (hand_in meaning) (sym may.1 ∙ at.doing)) may.2
+  may_begin_at p begun (Ended op) call free at may = (at.0, subst (λ h. MayStart meaning.layout h call) (ap (hand_in meaning) (sym may.1 ∙ at.1.doing)) may.2)
+  may_begin_at p begun (Stopped so_far start) call free at may = absurd (false≢true (sym free))
 
-  -- such a pass may begin a call
-  pub may_begin : (home : Home S) (h : Holder S Op) (call : Call) → IsHeld meaning s home h → IsSome h.hand → IsServed (meaning.layout s) call → h.calls < 4294967295 → MayEnter meaning s (Begin call) h.seat.me.0.post
-  may_begin home h call held some served count =
-      let f = free_of home h held some in
+  begun_at : (p : Post Op) (begun : ℕ) (rest : Rest Op) (call : Call) → is_stopped rest ≡ false → IsAt meaning p begun rest →
+      begun_in meaning rest call ≡ Ended (meaning.begun (hand_of meaning p.worker) call)
+  begun_at p begun (Hand hand) call free at = ap (λ d. Ended (meaning.begun (hand_in meaning d) call)) (sym at.doing)
+  begun_at p begun (Ended op) call free at = ap (λ d. Ended (meaning.begun (hand_in meaning d) call)) (sym at.1.doing)
+  begun_at p begun (Stopped so_far start) call free at = absurd (false≢true (sym free))
+
+module _ {S Op : Type 0} (meaning : Meaning Op) where
+  pub hand_held : (home : Home S) (h : Holder S Op) → IsHeld meaning home h → is_stopped h.rest ≡ false → HasHand meaning h.seat.me.0.post.worker h.calls h.rest
+  hand_held home h held free = has_hand meaning h.seat.me.0.post h.calls h.rest free held.at
+
+  -- with it a call may begin
+  pub may_begin : (home : Home S) (h : Holder S Op) (call : Call) → IsHeld meaning home h → is_stopped h.rest ≡ false → IsServed meaning.layout call →
+      h.calls < 4294967295 → MayEnter meaning (Begin call) h.seat.me.0.post
+  may_begin home h call held free served count =
+      let f = hand_held home h held free in
       let v = h.seat.me.0 in
-      let name : f.hand.name ≡ v.name = f.name ∙ held.worker in (
+      let name : f.hand.name ≡ v.name = f.idle.name ∙ held.worker in (
         f.hand,
-        f.rests,
+        f.idle.doing,
         record {
           served = served;
           least_name = subst (λ n. 1 ≤ n) (sym name) held.least;
-          most_name = subst (λ n. n ≤ (meaning.layout s).workers) (sym name) (below v.name v.names (meaning.layout s).workers held.belongs.names held.most);
-          number = subst (λ n. n < 4294967295) (f.counted ∙ sym f.number) count;
+          most_name = subst (λ n. n ≤ meaning.layout.workers) (sym name) (below v.name v.names meaning.layout.workers held.belongs.names held.most);
+          number = subst (λ n. n < 4294967295) (f.idle.calls ∙ sym f.idle.number) count;
         },
       )
     where
       below : (a b c : ℕ) → 0 < b → a + b ≤ c + 1 → a ≤ c
       below a b c h k = omega arith
 
-  -- a pass whose call has its reply
-  pub held_ended : (home : Home S) (h : Holder S Op) (o : Origin S) → o.structure.value ≡ s → IsHeld meaning s home h → IsSome h.hand → (seat : Seat ℕ (View S Op)) (name names calls : ℕ) (hand : Hand) (tally : Tally) (call : Call) (op : Op) (reply : Reply) (made : ℕ) (unbegun : Option Call) →
-      Belongs home seat → name ≡ h.name → names ≡ h.names → calls ≡ h.calls + 1 → hand ≡ meaning.finished o.structure.value op → unbegun ≡ None → Ends meaning o call h.seat.me.0 seat.me.0 op reply made →
-      IsHeld meaning s home (record { seat = seat; name = name; names = names; calls = calls; hand = Some hand; tally = tally; unbegun = unbegun })
-  held_ended home h o same held some seat name names calls hand tally call op reply made unbegun b n k c is none e =
-      let f = free_of home h held some in
-      let v = h.seat.me.0 in
+  pub may_begin_in : (home : Home S) (h : Holder S Op) (call : Call) → IsHeld meaning home h → is_stopped h.rest ≡ false → IsServed meaning.layout call →
+      h.calls < 4294967295 → MayBeginIn meaning h.rest call
+  may_begin_in home h call held free served count = may_begin_at meaning h.seat.me.0.post h.calls h.rest call free held.at
+      (may_begin home h call held free served count)
+
+  -- a pass that begins a call
+  pub begins_calling : Lawful meaning → (home : Home S) (h : Holder S Op) (call : Call) → IsHeld meaning home h → is_stopped h.rest ≡ false →
+      IsServed meaning.layout call → h.calls < 4294967295 →
+      (calls : ℕ) (rest : Rest Op) → calls ≡ h.calls + 1 → rest ≡ begun_in meaning h.rest call →
+      IsCalling meaning home (Begin call) call h (record { seat = h.seat; name = h.name; names = h.names; calls = calls; rest = rest }) 0 None
+  begins_calling laws home h call held free served count calls rest counted is =
+      let may = may_begin home h call held free served count in
       record {
-        belongs = b;
-        name = n ∙ held.name ∙ sym e.same.name;
-        names = k ∙ held.names ∙ sym e.same.names;
-        worker = ap (λ (u : Worker Op). u.name) e.worker ∙ held.worker ∙ sym e.same.name;
-        least = subst (λ x. 1 ≤ x) (sym e.same.name) held.least;
-        most = subst (λ x. x + seat.me.0.names ≤ (meaning.layout s).workers + 1) (sym e.same.name) (subst (λ x. v.name + x ≤ (meaning.layout s).workers + 1) (sym e.same.names) held.most);
-        at = subst (λ (z : Option Call). IsAt meaning s seat.me.0.post.worker calls tally (Some hand) z) (sym none)
-            (subst (λ (u : Worker Op). IsAt meaning s u calls tally (Some hand) None) (sym e.worker)
-            (subst (λ (z : Hand). IsAt meaning s (record { name = v.post.worker.name; number = v.post.worker.number + 1; doing = Idle (meaning.finished o.structure.value op) }) calls tally (Some z) None) (sym is)
-            (refl, e.hand.0, e.hand.1, c ∙ ap (λ x. x + 1) f.counted)));
+        belongs = held.belongs;
+        name = refl;
+        names = refl;
+        calls = counted;
+        op = meaning.begun (hand_of meaning h.seat.me.0.post.worker) call;
+        is = is ∙ begun_at meaning h.seat.me.0.post h.calls h.rest call free held.at;
+        at = (may, begins_runs meaning laws home.origin call h.seat.me.0 may);
       }
+
+  -- what stays of a pass in its call
+  module _ (home : Home S) (h k : Holder S Op) (held : IsHeld meaning home h) (free : is_stopped h.rest ≡ false) (start : Start) (call : Call) (made : ℕ) where
+    -- a pass whose call has its reply
+    pub held_ended : (reply : Reply) → IsCalling meaning home start call h k made (Some reply) → IsHeld meaning home k
+    held_ended reply c =
+        let e : Ends meaning home.origin call h.seat.me.0 k.seat.me.0 c.op reply made = c.at in
+        let f = hand_held home h held free in
+        record {
+          belongs = c.belongs;
+          name = c.name ∙ held.name ∙ sym e.same.name;
+          names = c.names ∙ held.names ∙ sym e.same.names;
+          worker = ap (λ (u : Worker Op). u.name) e.worker ∙ held.worker ∙ sym e.same.name;
+          least = subst (λ x. 1 ≤ x) (sym e.same.name) held.least;
+          most = subst (λ x. x + k.seat.me.0.names ≤ meaning.layout.workers + 1) (sym e.same.name)
+              (subst (λ x. h.seat.me.0.name + x ≤ meaning.layout.workers + 1) (sym e.same.names) held.most);
+          at = subst (IsAt meaning k.seat.me.0.post k.calls) (sym c.is) (
+            subst IsSome (sym e.replied) refl,
+            subst (λ u. IsIdle u k.calls (meaning.finished c.op)) (sym e.worker)
+                (record { doing = refl; name = e.hand.0; number = e.hand.1; calls = c.calls ∙ ap (λ x. x + 1) f.idle.calls }),
+          );
+        }
+
+    -- a pass whose call is stopped
+    pub held_stopped : (rest : Rest Op) (so_far : Tally) → (c : IsCalling meaning home start call h k made None) → rest ≡ Stopped so_far start →
+        so_far ≡ tally meaning c.op → IsHeld meaning home (record k { rest = rest })
+    held_stopped rest so_far c is counted =
+        let r : Runs meaning home.origin call h.seat.me.0 (entering meaning start k.seat.me.0) c.op made = c.at.1 in
+        let f = hand_held home h held free in
+        record {
+          belongs = c.belongs;
+          name = c.name ∙ held.name ∙ sym r.same.name;
+          names = c.names ∙ held.names ∙ sym r.same.names;
+          worker = name_entered start k.seat.me.0.post ∙ ap (λ (u : Worker Op). u.name) r.worker ∙ held.worker ∙ sym r.same.name;
+          least = subst (λ x. 1 ≤ x) (sym r.same.name) held.least;
+          most = subst (λ x. x + k.seat.me.0.names ≤ meaning.layout.workers + 1) (sym r.same.name)
+              (subst (λ x. h.seat.me.0.name + x ≤ meaning.layout.workers + 1) (sym r.same.names) held.most);
+          at = subst (IsAt meaning k.seat.me.0.post k.calls) (sym is) (record {
+            may = c.at.0;
+            calls = c.calls ∙ ap (λ x. x + 1) f.idle.calls ∙ sym (ap (λ (u : Worker Op). u.number) r.worker);
+            tally = counted ∙ sym (ap (λ (u : Worker Op). tally_in meaning u.doing) r.worker);
+          });
+        }
+      where
+        name_entered : (x : Start) (p : Post Op) → p.worker.name ≡ (entered meaning x p).worker.name
+        name_entered Go p = refl
+        name_entered (Begin asked) p = refl
+        name_entered (Sweep word) p = refl

@@ -39,8 +39,14 @@ update_yes (Get k) reply h = absurd (false≢true h)
 -- an entry that stands among all stands among those of its name
 stands_own : (name : ℕ) (es : List Entry) (x : Entry) (n : ℕ) → x.worker ≡ name → StandsFrom n es x → StandsFrom 0 (entries_of name es) x
 stands_own name es x n own h =
-    let one : entries_of name (x ∷ h.1) ≡ x ∷ entries_of name h.1 = entries-append name (x ∷ []) h.1 ∙ ap (λ zs. zs ++ entries_of name h.1) (entries_own name x own) in
-    (entries_of name h.0, entries_of name h.1, ap (entries_of name) h.2 ∙ entries-append name h.0 (x ∷ h.1) ∙ ap (λ zs. entries_of name h.0 ++ zs) one, omega arith)
+    let one : entries_of name (x ∷ h.1) ≡ x ∷ entries_of name h.1 = entries-append name (x ∷ []) h.1
+    ∙ ap (λ zs. zs ++ entries_of name h.1) (entries_own name x own) in (
+      entries_of name h.0,
+      entries_of name h.1,
+      ap (entries_of name) h.2 ∙ entries-append name h.0 (x ∷ h.1)
+          ∙ ap (λ zs. entries_of name h.0 ++ zs) one,
+      omega arith,
+    )
 
 module _ {Op : Type 0} (settled : List Entry) (mine : List Made) (name number : ℕ) (op : Op) (call : Call) (begun : Option ℕ) (hand : Hand) where
   abbrev entry : Reply → Entry
@@ -49,7 +55,8 @@ module _ {Op : Type 0} (settled : List Entry) (mine : List Made) (name number : 
   abbrev item : Reply → List Made
   item reply = Answered (entry reply) ∷ []
 
-  below_still : (reply : Reply) → AllByRecursion (λ e. e.worker ≡ name → e.number < number) (answered mine) → AllByRecursion (λ e. e.worker ≡ name → e.number < number + 1) (answered (mine ++ item reply))
+  below_still : (reply : Reply) → AllByRecursion (λ e. e.worker ≡ name → e.number < number) (answered mine) →
+      AllByRecursion (λ e. e.worker ≡ name → e.number < number + 1) (answered (mine ++ item reply))
   below_still reply h =
       subst (AllByRecursion (λ e. e.worker ≡ name → e.number < number + 1)) (sym (answered-append mine (item reply)))
       (all_both (λ e. e.worker ≡ name → e.number < number + 1) (answered mine) (entry reply ∷ [])
@@ -63,25 +70,30 @@ module _ {Op : Type 0} (settled : List Entry) (mine : List Made) (name number : 
       here n = omega arith
 
   -- an update of a finished call isn't that of this call
-  not_before : AllByRecursion (λ e. e.worker ≡ name → e.number < number) (answered mine) → StandsFrom 0 (entries_of name (updates_in mine)) (update_of name number call) → ⊥
+  not_before : AllByRecursion (λ e. e.worker ≡ name → e.number < number) (answered mine) →
+      StandsFrom 0 (entries_of name (updates_in mine)) (update_of name number call) → ⊥
   not_before h st =
       let k : StandsFrom 0 (updates_in mine) (update_of name number call) = entry_stands name (updates_in mine) (update_of name number call) st.0 st.1 st.2 in
-      let low : number < number = all_at (λ e. e.worker ≡ name → e.number < number) k.0 k.1 (update_of name number call) (subst (AllByRecursion (λ e. e.worker ≡ name → e.number < number)) k.2 (filtered (answered mine) h)) refl in
+      let low : number < number = all_at (λ e. e.worker ≡ name → e.number < number) k.0 k.1 (update_of name number call)
+      (subst (AllByRecursion (λ e. e.worker ≡ name → e.number < number)) k.2 (filtered (answered mine) h)) refl in
       never number low
     where
       never : (n : ℕ) → n < n → ⊥
       never n l = omega arith
 
-      filtered : (es : List Entry) → AllByRecursion (λ e. e.worker ≡ name → e.number < number) es → AllByRecursion (λ e. e.worker ≡ name → e.number < number) (filter is_update es)
+      filtered : (es : List Entry) → AllByRecursion (λ e. e.worker ≡ name → e.number < number) es →
+          AllByRecursion (λ e. e.worker ≡ name → e.number < number) (filter is_update es)
       filtered [] q = tt
       filtered (e ∷ es) q = by_test (is_update e) (filtered es q.1)
         where
-          by_test : (b : Bool) → AllByRecursion (λ d. d.worker ≡ name → d.number < number) (filter is_update es) → AllByRecursion (λ d. d.worker ≡ name → d.number < number) (cond b (e ∷ filter is_update es) (filter is_update es))
+          by_test : (b : Bool) → AllByRecursion (λ d. d.worker ≡ name → d.number < number) (filter is_update es) →
+              AllByRecursion (λ d. d.worker ≡ name → d.number < number) (cond b (e ∷ filter is_update es) (filter is_update es))
           by_test true r = (q.0, r)
           by_test false r = r
 
   -- the update of a call with Yes joins those of its name
-  update_account : (n : ℕ) → StandsFrom n settled (update_of name number call) → is_update (entry Yes) ≡ true → Account settled mine (busy name number op call begun) → Account settled (mine ++ item Yes) (idle {Op = Op} name number hand)
+  update_account : (n : ℕ) → StandsFrom n settled (update_of name number call) → is_update (entry Yes) ≡ true →
+      Account settled mine (busy name number op call begun) → Account settled (mine ++ item Yes) (idle {Op = Op} name number hand)
   update_account n st yes_is a = by_more a.more a.is a.one
     where
       made_now : entries_of name (updates_in (mine ++ item Yes)) ≡ entries_of name (updates_in mine) ++ entry Yes ∷ []
@@ -89,8 +101,10 @@ module _ {Op : Type 0} (settled : List Entry) (mine : List Made) (name number : 
           ap (entries_of name) (updates-append mine (item Yes) ∙ ap (λ b. updates_in mine ++ cond b (entry Yes ∷ []) []) yes_is)
           ∙ entries-append name (updates_in mine) (entry Yes ∷ []) ∙ ap (λ zs. entries_of name (updates_in mine) ++ zs) (entries_own name (entry Yes) refl)
 
-      by_more : (more : List Entry) → entries_of name settled ≡ entries_of name (updates_in mine) ++ more → IsOneMore (busy name number op call begun) more → Account settled (mine ++ item Yes) (idle {Op = Op} name number hand)
-      by_more [] e one = absurd (not_before a.below (subst (λ zs. StandsFrom 0 zs (update_of name number call)) (e ∙ append-nil (entries_of name (updates_in mine))) (stands_own name settled (update_of name number call) n refl st)))
+      by_more : (more : List Entry) → entries_of name settled ≡ entries_of name (updates_in mine) ++ more → IsOneMore (busy name number op call begun) more →
+          Account settled (mine ++ item Yes) (idle {Op = Op} name number hand)
+      by_more [] e one = absurd (not_before a.below (subst (λ zs. StandsFrom 0 zs (update_of name number call))
+          (e ∙ append-nil (entries_of name (updates_in mine))) (stands_own name settled (update_of name number call) n refl st)))
       by_more (d ∷ []) e one = record {
         more = [];
         is = e ∙ ap (λ z. entries_of name (updates_in mine) ++ z ∷ []) one ∙ sym made_now ∙ sym (append-nil (entries_of name (updates_in (mine ++ item Yes))));
@@ -100,7 +114,8 @@ module _ {Op : Type 0} (settled : List Entry) (mine : List Made) (name number : 
       by_more (d ∷ (f ∷ fs)) e one = absurd one
 
   -- a call that made no update has none
-  other_account : (p : Progress) (reply : Reply) → p.settled ≡ settled → AllByRecursion (λ e. e.worker ≡ name → e.number ≡ number → ⊥) (made p) → is_update (entry reply) ≡ false →
+  other_account : (p : Progress) (reply : Reply) → p.settled ≡ settled → AllByRecursion (λ e. e.worker ≡ name → e.number ≡ number → ⊥) (made p) →
+      is_update (entry reply) ≡ false →
       Account settled mine (busy name number op call begun) → Account settled (mine ++ item reply) (idle {Op = Op} name number hand)
   other_account p reply same none no_is a = by_more a.more a.is a.one
     where
@@ -110,15 +125,20 @@ module _ {Op : Type 0} (settled : List Entry) (mine : List Made) (name number : 
       never : (d : Entry) → entries_of name settled ≡ entries_of name (updates_in mine) ++ d ∷ [] → d ≡ update_of name number call → ⊥
       never d e is =
           let k : StandsFrom 0 settled d = entry_stands name settled d (entries_of name (updates_in mine)) [] e in
-          let free : AllByRecursion (λ e. e.worker ≡ name → e.number ≡ number → ⊥) settled = subst (AllByRecursion (λ e. e.worker ≡ name → e.number ≡ number → ⊥)) same (all_left (λ e. e.worker ≡ name → e.number ≡ number → ⊥) p.settled (waiting_updates p) none) in
-          all_at (λ e. e.worker ≡ name → e.number ≡ number → ⊥) k.0 k.1 d (subst (AllByRecursion (λ e. e.worker ≡ name → e.number ≡ number → ⊥)) k.2 free) (ap (λ z. z.worker) is) (ap (λ z. z.number) is)
+          let free : AllByRecursion (λ e. e.worker ≡ name → e.number ≡ number → ⊥) settled =
+          subst (AllByRecursion (λ e. e.worker ≡ name → e.number ≡ number → ⊥)) same
+          (all_left (λ e. e.worker ≡ name → e.number ≡ number → ⊥) p.settled (waiting_updates p) none) in
+          all_at (λ e. e.worker ≡ name → e.number ≡ number → ⊥) k.0 k.1 d (subst (AllByRecursion (λ e. e.worker ≡ name → e.number ≡ number → ⊥)) k.2 free)
+          (ap (λ z. z.worker) is) (ap (λ z. z.number) is)
 
-      by_more : (more : List Entry) → entries_of name settled ≡ entries_of name (updates_in mine) ++ more → IsOneMore (busy name number op call begun) more → Account settled (mine ++ item reply) (idle {Op = Op} name number hand)
+      by_more : (more : List Entry) → entries_of name settled ≡ entries_of name (updates_in mine) ++ more → IsOneMore (busy name number op call begun) more →
+          Account settled (mine ++ item reply) (idle {Op = Op} name number hand)
       by_more [] e one = record { more = []; is = e ∙ ap (λ zs. entries_of name zs ++ []) (sym made_now); one = tt; below = below_still reply a.below }
       by_more (d ∷ []) e one = absurd (never d e one)
       by_more (d ∷ (f ∷ fs)) e one = absurd one
 
-  module _ (l : Layout) (room : ℕ) (before : Map) (m : State) (p : Progress) (from : ℕ) (reply : Reply) (same : p.settled ≡ settled) (r : IsReplied l room before m p name number call from reply) where
+  module _ (l : Layout) (room : ℕ) (before : Map) (m : State) (p : Progress) (from : ℕ) (reply : Reply) (same : p.settled ≡ settled)
+      (r : IsReplied l room before m p name number call from reply) where
     pub replied_account : Account settled mine (busy name number op call begun) → Account settled (mine ++ item reply) (idle {Op = Op} name number hand)
     replied_account a = by_test (is_update_by call reply) refl
       where
@@ -126,7 +146,8 @@ module _ {Op : Type 0} (settled : List Entry) (mine : List Made) (name number : 
         by_test true is =
             let y : reply ≡ Yes = update_yes call reply is in
             subst (λ z. Account settled (mine ++ item z) (idle {Op = Op} name number hand)) (sym y)
-            (update_account from (subst (λ es. StandsFrom from es (update_of name number call)) same (r.update is)) (subst (λ z. is_update_by call z ≡ true) y is) a)
+            (update_account from (subst (λ es. StandsFrom from es (update_of name number call)) same (r.update is))
+            (subst (λ z. is_update_by call z ≡ true) y is) a)
         by_test false is = other_account p reply same (r.none is) is a
 
     pub replied_settled : AllByRecursion (StandsFrom 0 settled) (updates_in (item reply))
@@ -137,8 +158,11 @@ module _ {Op : Type 0} (settled : List Entry) (mine : List Made) (name number : 
 
         by_test : (b : Bool) → is_update_by call reply ≡ b → AllByRecursion (StandsFrom 0 settled) (cond b (entry reply ∷ []) [])
         by_test true is =
-            let y : reply ≡ Yes = update_yes call reply is in
-            (from_none from (entry reply) (subst (λ z. StandsFrom from settled (entry z)) (sym y) (subst (λ es. StandsFrom from es (update_of name number call)) same (r.update is))), tt)
+            let y : reply ≡ Yes = update_yes call reply is in (
+              from_none from (entry reply) (subst (λ z. StandsFrom from settled (entry z)) (sym y)
+                  (subst (λ es. StandsFrom from es (update_of name number call)) same (r.update is))),
+              tt,
+            )
         by_test false is = tt
 
     -- the place of a completed read

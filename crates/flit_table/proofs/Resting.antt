@@ -35,22 +35,22 @@ named_entries name (Answered e ∷ items) h = (h.0, named_entries name items h.1
 named_entries name (Evicted n word ∷ items) h = named_entries name items h.1
 
 others_entries : (name other : ℕ) (items : List Made) → other ≢ name → AllByRecursion (λ i. name_of i ≡ name) items → NoneOf other (answered items)
-others_entries name other items apart h = all_map (λ e. e.worker ≡ name) (λ e. e.worker ≢ other) (λ e q r. apart (sym r ∙ q)) (answered items) (named_entries name items h)
+others_entries name other items apart h = all_map (λ e. e.worker ≡ name) (λ e. e.worker ≢ other) (λ e q r. apart (sym r ∙ q)) (answered items)
+    (named_entries name items h)
 
 -- what comes of an item that is over, seen from the view and the moment in which it is
-pub record Comes {S Op : Type 0} (meaning : Meaning S Op) (o : Origin S) (log : List Logged) (M : Moment Op) (v : View S Op) (doing : Doing Op) (items : List Made) (reads : List Placed) : Type 0 where
+pub record Comes {S Op : Type 0} (meaning : Meaning Op) (o : Origin S) (log : List Logged) (M : Moment Op) (v : View S Op) (doing : Doing Op)
+    (items : List Made) (reads : List Placed) : Type 0 where
   pub named : AllByRecursion (λ i. name_of i ≡ v.post.worker.name) items
   pub account : Account (settled_in log) v.mine v.post.worker → Account (settled_in log) (v.mine ++ items) (record v.post.worker { doing = doing })
-  pub licence : IsLicensed meaning o.structure.value M (record v.post { worker = record v.post.worker { doing = doing } })
+  pub licence : IsLicensed meaning M (record v.post { worker = record v.post.worker { doing = doing } })
   pub settled : AllByRecursion (StandsFrom 0 (updates_seen v)) (updates_in items)
   pub are : map (λ r. r.entry) reads ≡ reads_in items
   pub right : AllByRecursion (IsRightAt (content_of o) (updates_seen v)) reads
-  pub bounded : AllByRecursion (IsWithinBounds meaning o.structure.value M) (answered items)
+  pub bounded : AllByRecursion (IsWithinBounds meaning M) (answered items)
 
-module _ {S Op : Type 0} (meaning : Meaning S Op) (laws : Lawful meaning) (o : Origin S) (m : State) (log : List Logged) (a b : List (View S Op)) (v : View S Op) (some : 0 < v.names) where
-  abbrev s : S
-  s = o.structure.value
-
+module _ {S Op : Type 0} (meaning : Meaning Op) (laws : Lawful meaning) (o : Origin S) (m : State) (log : List Logged) (a b : List (View S Op)) (v : View S Op)
+    (some : 0 < v.names) where
   module _ (doing : Doing Op) (items : List Made) (reads : List Placed) where
     abbrev pub resting : View S Op
     resting = record v { post = record v.post { worker = record v.post.worker { doing = doing } }; mine = v.mine ++ items; placed = v.placed ++ reads }
@@ -67,31 +67,43 @@ module _ {S Op : Type 0} (meaning : Meaning S Op) (laws : Lawful meaning) (o : O
     abbrev pub later : Moment Op
     later = changes.becomes meaning laws o m m log log a b v resting (rest_of v) old new
 
-    rest_accounts : AllByRecursion (λ i. name_of i ≡ v.post.worker.name) items → AllByRecursion (IsOther before.workers v.post.worker.name) (workers_of (rest_of v)) →
-        AllByRecursion (λ p. Account (settled_in log) v.mine p.worker) (rest_of v) → AllByRecursion (λ p. Account (settled_in log) (v.mine ++ items) p.worker) (rest_of v)
+    rest_accounts : AllByRecursion (λ i. name_of i ≡ v.post.worker.name) items →
+        AllByRecursion (IsOther before.workers v.post.worker.name) (workers_of (rest_of v)) →
+        AllByRecursion (λ p. Account (settled_in log) v.mine p.worker) (rest_of v) →
+        AllByRecursion (λ p. Account (settled_in log) (v.mine ++ items) p.worker) (rest_of v)
     rest_accounts named others h =
-        all_zip (λ p. IsOther before.workers v.post.worker.name p.worker) (λ p. Account (settled_in log) v.mine p.worker) (λ p. Account (settled_in log) (v.mine ++ items) p.worker)
+        all_zip (λ p. IsOther before.workers v.post.worker.name p.worker) (λ p. Account (settled_in log) v.mine p.worker)
+        (λ p. Account (settled_in log) (v.mine ++ items) p.worker)
         (λ p k x. account_behind (settled_in log) p.worker v.mine items (others_entries v.post.worker.name p.worker.name items k.apart named) x)
         (rest_of v) (posts_all (IsOther before.workers v.post.worker.name) (rest_of v) others) h
 
-    pub rest_kept : Kept meaning o m log (a ++ v ∷ b) → changes.IsChange meaning laws o v.post.worker.name before later → Comes meaning o log later v doing items reads → Kept meaning o m log (a ++ resting ∷ b)
+    pub rest_kept : Kept meaning o m log (a ++ v ∷ b) → changes.IsChange meaning laws o v.post.worker.name before later →
+        Comes meaning o log later v doing items reads → Kept meaning o m log (a ++ resting ∷ b)
     rest_kept k c i =
         let x : Agrees meaning o log before v = changes.agrees_was meaning laws o m m log log a b v resting (rest_of v) old new k in
         let others = changes.rest_others meaning laws o m m log log a b v resting (rest_of v) old new k in
-        let accounts : AllByRecursion (λ p. Account (settled_in log) v.mine p.worker) (v.post ∷ rest_of v) = subst (AllByRecursion (λ p. Account (settled_in log) v.mine p.worker)) old x.accounts in
-        let licences : AllByRecursion (IsLicensed meaning s before) (v.post ∷ rest_of v) = subst (AllByRecursion (IsLicensed meaning s before)) old x.licensed in
+        let accounts : AllByRecursion (λ p. Account (settled_in log) v.mine p.worker) (v.post ∷ rest_of v) =
+        subst (AllByRecursion (λ p. Account (settled_in log) v.mine p.worker)) old x.accounts in
+        let licences : AllByRecursion (IsLicensed meaning before) (v.post ∷ rest_of v) = subst (AllByRecursion (IsLicensed meaning before)) old x.licensed in
         let own : Agrees meaning o log later resting = record {
           opened = x.opened;
           begins = x.begins;
           notes = x.notes;
           bare = x.bare;
-          items = all_both (λ y. HasName (name_of y) (used_of v)) v.mine items x.items (all_map (λ y. name_of y ≡ v.post.worker.name) (λ y. HasName (name_of y) (used_of v)) (λ y e. inl (sym e)) items i.named);
+          items = all_both (λ y. HasName (name_of y) (used_of v)) v.mine items x.items
+              (all_map (λ y. name_of y ≡ v.post.worker.name) (λ y. HasName (name_of y) (used_of v)) (λ y e. inl (sym e)) items i.named);
           counted = x.counted;
-          accounts = subst (AllByRecursion (λ p. Account (settled_in log) (v.mine ++ items) p.worker)) (sym new) (i.account accounts.0, rest_accounts i.named others accounts.1);
-          licensed = subst (AllByRecursion (IsLicensed meaning s later)) (sym new) (i.licence, changes.licences_on meaning laws o v.post.worker.name before later c (rest_of v) others licences.1);
-          settled = subst (AllByRecursion (StandsFrom 0 (updates_seen v))) (sym (updates-append v.mine items)) (all_both (StandsFrom 0 (updates_seen v)) (updates_in v.mine) (updates_in items) x.settled i.settled);
-          reads = map-append (λ r. r.entry) v.placed reads ∙ ap (λ es. es ++ map (λ r. r.entry) reads) x.reads ∙ ap (λ es. reads_in v.mine ++ es) i.are ∙ sym (reads-append v.mine items);
+          accounts = subst (AllByRecursion (λ p. Account (settled_in log) (v.mine ++ items) p.worker)) (sym new)
+              (i.account accounts.0, rest_accounts i.named others accounts.1);
+          licensed = subst (AllByRecursion (IsLicensed meaning later)) (sym new)
+              (i.licence, changes.licences_on meaning laws o v.post.worker.name before later c (rest_of v) others licences.1);
+          settled = subst (AllByRecursion (StandsFrom 0 (updates_seen v))) (sym (updates-append v.mine items))
+              (all_both (StandsFrom 0 (updates_seen v)) (updates_in v.mine) (updates_in items) x.settled i.settled);
+          reads = map-append (λ r. r.entry) v.placed reads ∙ ap (λ es. es ++ map (λ r. r.entry) reads) x.reads ∙ ap (λ es. reads_in v.mine ++ es) i.are
+              ∙ sym (reads-append v.mine items);
           right = all_both (IsRightAt (content_of o) (updates_seen v)) v.placed reads x.right i.right;
-          bounded = subst (AllByRecursion (IsWithinBounds meaning s later)) (sym (answered-append v.mine items)) (all_both (IsWithinBounds meaning s later) (answered v.mine) (answered items) x.bounded i.bounded);
+          bounded = subst (AllByRecursion (IsWithinBounds meaning later)) (sym (answered-append v.mine items))
+              (all_both (IsWithinBounds meaning later) (answered v.mine) (answered items) x.bounded i.bounded);
         } in
-        changes.kept_changed meaning laws o m m log log a b v resting (rest_of v) old new k c (continues_same log) own (whole_put log a b v resting (λ e. e) k.longest)
+        changes.kept_changed meaning laws o m m log log a b v resting (rest_of v) old new k c (continues_same log) own
+        (whole_put log a b v resting (λ e. e) k.longest)

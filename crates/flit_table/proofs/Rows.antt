@@ -54,7 +54,8 @@ told_is m (Store word to) = refl
 told_is m Draw = refl
 
 set_add : (xs ys : List ℕ) (i y : ℕ) → set (xs ++ ys) (length xs + i) y ≡ xs ++ set ys i y
-set_add xs ys i y = let e : (length xs + i) - length xs ≡ i = omega arith in set-append_right xs ys (length xs) (length xs + i) y refl (omega arith) ∙ ap (λ (k : ℕ). xs ++ set ys k y) e
+set_add xs ys i y = let e : (length xs + i) - length xs ≡ i = omega arith in set-append_right xs ys (length xs) (length xs + i) y refl (omega arith)
+    ∙ ap (λ (k : ℕ). xs ++ set ys k y) e
 
 -- four stretches side by side, with as many shadows as words
 module _ (ws ss ts : List ℕ) (d n : ℕ) (p : length ws ≡ n) (q : length ss ≡ n) where
@@ -68,19 +69,23 @@ module _ (ws ss ts : List ℕ) (d n : ℕ) (p : length ws ≡ n) (q : length ss 
   set_1 i y l = set-append_left ws (ss ++ (ts ++ d ∷ [])) i y (omega (arith, p))
 
   get_2 : (i : ℕ) → i < n → get_or row (n + i) 0 ≡ get_or ss i 0
-  get_2 i l = ap (λ (k : ℕ). get_or row (k + i) 0) (sym p) ∙ (get_or-append-add ws (ss ++ (ts ++ d ∷ [])) i 0 ∙ get_or_append_left ss (ts ++ d ∷ []) 0 i (omega (arith, q)))
+  get_2 i l = ap (λ (k : ℕ). get_or row (k + i) 0) (sym p) ∙ (get_or-append-add ws (ss ++ (ts ++ d ∷ [])) i 0
+      ∙ get_or_append_left ss (ts ++ d ∷ []) 0 i (omega (arith, q)))
 
   set_2 : (i y : ℕ) → i < n → set row (n + i) y ≡ ws ++ (set ss i y ++ (ts ++ d ∷ []))
-  set_2 i y l = ap (λ (k : ℕ). set row (k + i) y) (sym p) ∙ (set_add ws (ss ++ (ts ++ d ∷ [])) i y ∙ ap (λ (k : List ℕ). ws ++ k) (set-append_left ss (ts ++ d ∷ []) i y (omega (arith, q))))
+  set_2 i y l = ap (λ (k : ℕ). set row (k + i) y) (sym p) ∙ (set_add ws (ss ++ (ts ++ d ∷ [])) i y
+      ∙ ap (λ (k : List ℕ). ws ++ k) (set-append_left ss (ts ++ d ∷ []) i y (omega (arith, q))))
 
   behind : (i : ℕ) → 2 * n + i ≡ length ws + (length ss + i)
   behind i = omega (arith, p, q)
 
   get_3 : (i : ℕ) → get_or row (2 * n + i) 0 ≡ get_or (ts ++ d ∷ []) i 0
-  get_3 i = ap (λ (k : ℕ). get_or row k 0) (behind i) ∙ (get_or-append-add ws (ss ++ (ts ++ d ∷ [])) (length ss + i) 0 ∙ get_or-append-add ss (ts ++ d ∷ []) i 0)
+  get_3 i = ap (λ (k : ℕ). get_or row k 0) (behind i) ∙ (get_or-append-add ws (ss ++ (ts ++ d ∷ [])) (length ss + i) 0
+      ∙ get_or-append-add ss (ts ++ d ∷ []) i 0)
 
   set_3 : (i y : ℕ) → set row (2 * n + i) y ≡ ws ++ (ss ++ set (ts ++ d ∷ []) i y)
-  set_3 i y = ap (λ (k : ℕ). set row k y) (behind i) ∙ (set_add ws (ss ++ (ts ++ d ∷ [])) (length ss + i) y ∙ ap (λ (k : List ℕ). ws ++ k) (set_add ss (ts ++ d ∷ []) i y))
+  set_3 i y = ap (λ (k : ℕ). set row k y) (behind i) ∙ (set_add ws (ss ++ (ts ++ d ∷ [])) (length ss + i) y
+      ∙ ap (λ (k : List ℕ). ws ++ k) (set_add ss (ts ++ d ∷ []) i y))
 
 end_get : (ts : List ℕ) (d k : ℕ) → length ts ≡ k → get_or (ts ++ d ∷ []) k 0 ≡ d
 end_get [] d zero e = refl
@@ -115,7 +120,8 @@ module _ (l : Layout) (m : State) (sized : IsSized l m) where
   at_shadow word h = get_2 m.words m.shadows m.slots m.counter n sized.words sized.shadows word h
 
   at_slot : (slot : ℕ) → slot < l.slots → get_or (laid_out m) (2 * n + slot) 0 ≡ count_at m slot
-  at_slot slot h = get_3 m.words m.shadows m.slots m.counter n sized.words sized.shadows slot ∙ get_or_append_left m.slots (m.counter ∷ []) 0 slot (omega (arith, sized.slots))
+  at_slot slot h = get_3 m.words m.shadows m.slots m.counter n sized.words sized.shadows slot
+      ∙ get_or_append_left m.slots (m.counter ∷ []) 0 slot (omega (arith, sized.slots))
 
   at_counter : get_or (laid_out m) (2 * n + l.slots) 0 ≡ m.counter
   at_counter = get_3 m.words m.shadows m.slots m.counter n sized.words sized.shadows l.slots ∙ end_get m.slots m.counter l.slots sized.slots
@@ -152,11 +158,13 @@ module _ (l : Layout) (m : State) (sized : IsSized l m) where
   same_slot : (slot : ℕ) → laid_out (record m { slots = set m.slots slot (count_at m slot) }) ≡ laid_out m
   same_slot slot = ap (λ (ts : List ℕ). m.words ++ (m.shadows ++ (ts ++ m.counter ∷ []))) (set-get_or m.slots slot 0)
 
-  exchanged : (word from to : ℕ) (b : Bool) → laid_out (record m { words = set m.words word (either b to (word_at m word)) }) ≡ laid_out (cond b (record m { words = set m.words word to }) m)
+  exchanged : (word from to : ℕ) (b : Bool) → laid_out (record m { words = set m.words word (either b to (word_at m word)) }) ≡ laid_out
+      (cond b (record m { words = set m.words word to }) m)
   exchanged word from to true = refl
   exchanged word from to false = same_word word
 
-  put_at : (e : Event) (j y : ℕ) (m2 : State) → place_in l e ≡ suc j → set (laid_out m) j y ≡ laid_out m2 → set (0 ∷ laid_out m) (place_in l e) y ≡ 0 ∷ laid_out m2
+  put_at : (e : Event) (j y : ℕ) (m2 : State) → place_in l e ≡ suc j → set (laid_out m) j y ≡ laid_out m2 →
+      set (0 ∷ laid_out m) (place_in l e) y ≡ 0 ∷ laid_out m2
   put_at e j y m2 p q = set_behind (laid_out m) (place_in l e) j y p ∙ ap (λ (xs : List ℕ). 0 ∷ xs) q
 
   lowered : (k : ℕ) → 1 ≤ k → k < 2 ^ 64 → (k + (2 ^ 64 - 1)) % 2 ^ 64 ≡ k - 1
@@ -165,19 +173,23 @@ module _ (l : Layout) (m : State) (sized : IsSized l m) where
   raised : (k : ℕ) → k < 2 ^ 64 - 1 → (k + 1) % 2 ^ 64 ≡ k + 1
   raised k h = omega arith
 
-  pub row_set : (e : Event) → IsWithin l e → IsAllowed m e → cell m e < 2 ^ 64 → set (0 ∷ laid_out m) (place_in l e) (turns e (cell m e)) ≡ 0 ∷ laid_out (after m e)
+  pub row_set : (e : Event) → IsWithin l e → IsAllowed m e → cell m e < 2 ^ 64 →
+      set (0 ∷ laid_out m) (place_in l e) (turns e (cell m e)) ≡ 0 ∷ laid_out (after m e)
   row_set (Load word) h k small = put_at (Load word) word (word_at m word) m (omega arith) (put_word word (word_at m word) h ∙ same_word word)
   row_set (ReadTag slot) h k small = put_at (ReadTag slot) (2 * n + slot) (count_at m slot) m (omega arith) (put_slot slot (count_at m slot) h ∙ same_slot slot)
   row_set (Raise slot) h k small =
       put_at (Raise slot) (2 * n + slot) (turns (Raise slot) (count_at m slot)) (after m (Raise slot)) (omega arith)
-      (put_slot slot (turns (Raise slot) (count_at m slot)) h ∙ ap (λ (y : ℕ). laid_out (record m { slots = set m.slots slot y })) (raised (count_at m slot) k.1))
+      (put_slot slot (turns (Raise slot) (count_at m slot)) h ∙ ap (λ (y : ℕ). laid_out (record m { slots = set m.slots slot y }))
+      (raised (count_at m slot) k.1))
   row_set (Lower slot) h k small =
       put_at (Lower slot) (2 * n + slot) (turns (Lower slot) (count_at m slot)) (after m (Lower slot)) (omega arith)
-      (put_slot slot (turns (Lower slot) (count_at m slot)) h ∙ ap (λ (y : ℕ). laid_out (record m { slots = set m.slots slot y })) (lowered (count_at m slot) k.1 small))
+      (put_slot slot (turns (Lower slot) (count_at m slot)) h ∙ ap (λ (y : ℕ). laid_out (record m { slots = set m.slots slot y }))
+      (lowered (count_at m slot) k.1 small))
   row_set (Exchange word from to) h k small =
       put_at (Exchange word from to) word (turns (Exchange word from to) (word_at m word)) (after m (Exchange word from to)) (omega arith)
       (put_word word (turns (Exchange word from to) (word_at m word)) h ∙ exchanged word from to (eqb (word_at m word) from))
-  row_set (Persist word kept) h k small = put_at (Persist word kept) (n + word) (max (shadow_at m word) kept) (after m (Persist word kept)) (omega arith) (put_shadow word (max (shadow_at m word) kept) h)
+  row_set (Persist word kept) h k small = put_at (Persist word kept) (n + word) (max (shadow_at m word) kept) (after m (Persist word kept)) (omega arith)
+      (put_shadow word (max (shadow_at m word) kept) h)
   row_set (Store word to) h k small = put_at (Store word to) word to (after m (Store word to)) (omega arith) (put_word word to h)
   row_set Draw h k small =
       put_at Draw (2 * n + l.slots) (turns Draw m.counter) (after m Draw) (omega arith)

@@ -17,20 +17,22 @@ use Rattle.flit_table.specs.Views.{content_of, updates_seen, history_seen, all_w
 use Rattle.flit_table.specs.Rule.{moment_of, Agrees, Kept}
 use Rattle.flit_table.proofs.LogLaws.{seen_grows}
 
-module _ {S Op : Type 0} (meaning : Meaning S Op) (laws : Lawful meaning) (o : Origin S) (m : State) (log : List Logged) (a b : List (View S Op)) (v : View S Op) (k : Kept meaning o m log (a ++ v ∷ b)) where
-  pub here : Agrees meaning o log (moment_of meaning o m log (all_workers (a ++ v ∷ b))) v
-  here = all_at (Agrees meaning o log (moment_of meaning o m log (all_workers (a ++ v ∷ b)))) a b v k.each
+module _ {S Op : Type 0} (meaning : Meaning Op) (laws : Lawful meaning) (o : Origin S) (m : State) (log : List Logged) (a b : List (View S Op)) (v : View S Op)
+    (k : Kept meaning o m log (a ++ v ∷ b)) where
+  pub here : Agrees meaning o log (moment_of o m log (all_workers (a ++ v ∷ b))) v
+  here = all_at (Agrees meaning o log (moment_of o m log (all_workers (a ++ v ∷ b)))) a b v k.each
 
   pub seen_first : (more : List Entry) × (settled_in log ≡ updates_seen v ++ more)
   seen_first = seen_grows v.log log here.begins
 
   pub seen_legal : IsLegal (content_of o) (updates_seen v)
   seen_legal =
-      let all : IsLegal (content_of o) (settled_in log) = (shadows_recover meaning laws o.structure.value (moment_of meaning o m log (all_workers (a ++ v ∷ b))) k.holds).legal in
+      let all : IsLegal (content_of o) (settled_in log) = (shadows_recover meaning laws (moment_of o m log (all_workers (a ++ v ∷ b))) k.holds).legal in
       legal_front (content_of o) (updates_seen v) seen_first.0 (subst (IsLegal (content_of o)) seen_first.1 all)
 
   pub history_legal : IsLegal (content_of o) (history_seen v)
-  history_legal = legal_from (content_of o) 0 (updates_seen v) v.placed seen_legal (all_weaker _ _ v.placed (right_from_start (content_of o) (updates_seen v)) here.right)
+  history_legal = legal_from (content_of o) 0 (updates_seen v) v.placed seen_legal
+      (all_weaker _ _ v.placed (right_from_start (content_of o) (updates_seen v)) here.right)
 
   pub history_map : map_after_all (content_of o) (history_seen v) ≡ map_after_all (content_of o) (updates_seen v)
   history_map = map_from (content_of o) 0 (updates_seen v) v.placed (all_weaker _ _ v.placed (right_from_start (content_of o) (updates_seen v)) here.right)

@@ -8,7 +8,6 @@ use Rattle.flit_structure.specs.Moments.{Moment, IsNew, HaveDifferentNames}
 use Rattle.flit_structure.specs.Meanings.{Meaning, Happens}
 use Rattle.flit_structure.specs.Lawful.{Lawful}
 use Rattle.flit_structure.proofs.Names.{all_left, all_right, all_both, all_put, different_split}
-use Rattle.flit_structure.proofs.Lasting.{happens_holds}
 use Rattle.flit_table.specs.declared.views.Logged.{Logged}
 use Rattle.flit_table.specs.declared.views.Made.{Made}
 use Rattle.flit_table.specs.declared.views.Made.TheVariants.{Answered, Evicted}
@@ -30,7 +29,8 @@ module _ {Op : Type 0} where
   apart_from n other (p ∷ ps) h (inl e) q = h.0 (e ∙ q)
   apart_from n other (p ∷ ps) h (inr k) q = apart_from n other ps h.1 k q
 
-  pub none_of : (other : ℕ) (ps : List (Post Op)) → AllByRecursion (λ p. p.worker.name ≢ other) ps → (items : List Made) → AllByRecursion (λ x. HasName (name_of x) ps) items → NoneOf other (answered items)
+  pub none_of : (other : ℕ) (ps : List (Post Op)) → AllByRecursion (λ p. p.worker.name ≢ other) ps → (items : List Made) →
+      AllByRecursion (λ x. HasName (name_of x) ps) items → NoneOf other (answered items)
   none_of other ps h [] k = tt
   none_of other ps h (Answered e ∷ items) k = (apart_from e.worker other ps h k.0, none_of other ps h items k.1)
   none_of other ps h (Evicted name word ∷ items) k = none_of other ps h items k.1
@@ -40,12 +40,14 @@ module _ {Op : Type 0} where
   new_posts_joined name (suc a) b =
       let x : suc a + b ≡ suc (a + b) = omega arith in
       let y : suc name + a ≡ name + suc a = omega arith in
-      ap (new_posts name) x ∙ ap (λ (ps : List (Post Op)). new_post name ∷ ps) (new_posts_joined (suc name) a b ∙ ap (λ (k : ℕ). new_posts (suc name) a ++ new_posts k b) y)
+      ap (new_posts name) x ∙ ap (λ (ps : List (Post Op)). new_post name ∷ ps) (new_posts_joined (suc name) a b
+      ∙ ap (λ (k : ℕ). new_posts (suc name) a ++ new_posts k b) y)
 
   -- the list before, and after
   old_order : (a x g y b : List (Worker Op)) → a ++ ((x ++ (g ++ y)) ++ b) ≡ (a ++ x) ++ (g ++ ((y ++ b) ++ []))
   old_order a x g y b =
-      ap (λ (z : List (Worker Op)). a ++ z) (append_assoc x (g ++ y) b ∙ ap (λ (z : List (Worker Op)). x ++ z) (append_assoc g y b ∙ ap (λ (z : List (Worker Op)). g ++ z) (sym (append-nil (y ++ b)))))
+      ap (λ (z : List (Worker Op)). a ++ z) (append_assoc x (g ++ y) b ∙ ap (λ (z : List (Worker Op)). x ++ z)
+      (append_assoc g y b ∙ ap (λ (z : List (Worker Op)). g ++ z) (sym (append-nil (y ++ b)))))
       ∙ sym (append_assoc a x (g ++ ((y ++ b) ++ [])))
 
   new_order : (a x g y b : List (Worker Op)) → (a ++ ((x ++ y) ++ b)) ++ (g ++ []) ≡ (a ++ x) ++ ((y ++ b) ++ (g ++ []))
@@ -62,7 +64,8 @@ module _ {Op : Type 0} where
   middle_of P x g y h = all_left P g y (all_right P x (g ++ y) h)
 
   -- the posts in the middle have other names than the first and the last
-  middle_apart : (p : Post Op) (x g y : List (Post Op)) → HaveDifferentNames (workers_of ((p ∷ x) ++ (g ++ y))) → AllByRecursion (λ q. AllByRecursion (λ z. z.worker.name ≢ q.worker.name) (p ∷ y)) g
+  middle_apart : (p : Post Op) (x g y : List (Post Op)) → HaveDifferentNames (workers_of ((p ∷ x) ++ (g ++ y))) →
+      AllByRecursion (λ q. AllByRecursion (λ z. z.worker.name ≢ q.worker.name) (p ∷ y)) g
   middle_apart p x g y h =
       let P = workers_of (p ∷ x) in
       let G = workers_of g in
@@ -72,7 +75,8 @@ module _ {Op : Type 0} where
       let two = different_split G Y one.1 in
       let first : AllByRecursion (λ u. u.name ≢ p.worker.name) G = all_left (λ u. u.name ≢ p.worker.name) G Y one.2.0 in
       all_zip (λ q. q.worker.name ≢ p.worker.name) (λ q. IsNew q.worker.name Y) (λ q. AllByRecursion (λ z. z.worker.name ≢ q.worker.name) (p ∷ y))
-      (λ q n i. ((λ e. n (sym e)), posts_all (λ u. u.name ≢ q.worker.name) y i)) g (posts_all (λ u. u.name ≢ p.worker.name) g first) (posts_all (λ u. IsNew u.name Y) g two.2)
+      (λ q n i. ((λ e. n (sym e)), posts_all (λ u. u.name ≢ q.worker.name) y i)) g (posts_all (λ u. u.name ≢ p.worker.name) g first)
+      (posts_all (λ u. IsNew u.name Y) g two.2)
 
 no_names : (n : ℕ) → n ≡ 0 → 0 < n → ⊥
 no_names n e h = omega arith
@@ -82,10 +86,8 @@ whole_front log [] ys h = absurd h
 whole_front log (x ∷ xs) ys (inl e) = inl e
 whole_front log (x ∷ xs) ys (inr h) = inr (whole_front log xs ys h)
 
-module _ {S Op : Type 0} (meaning : Meaning S Op) (laws : Lawful meaning) (o : Origin S) (m : State) (log : List Logged) (a b : List (View S Op)) (v : View S Op) (give : ℕ) (some : 0 < give) (less : give < v.names) where
-  abbrev s : S
-  s = o.structure.value
-
+module _ {S Op : Type 0} (meaning : Meaning Op) (laws : Lawful meaning) (o : Origin S) (m : State) (log : List Logged) (a b : List (View S Op)) (v : View S Op)
+    (give : ℕ) (some : 0 < give) (less : give < v.names) where
   abbrev keep : ℕ
   keep = v.names - give
 
@@ -103,7 +105,8 @@ module _ {S Op : Type 0} (meaning : Meaning S Op) (laws : Lawful meaning) (o : O
       let n : v.names - 1 ≡ (keep - 1) + give = omega arith in
       let k : suc v.name + (keep - 1) ≡ v.name + keep = omega arith in
       posts_head v (omega arith)
-      ∙ ap (λ (ps : List (Post Op)). v.post ∷ (ps ++ v.gone)) (ap (new_posts (suc v.name)) n ∙ new_posts_joined (suc v.name) (keep - 1) give ∙ ap (λ (j : ℕ). X ++ new_posts j give) k)
+      ∙ ap (λ (ps : List (Post Op)). v.post ∷ (ps ++ v.gone)) (ap (new_posts (suc v.name)) n ∙ new_posts_joined (suc v.name) (keep - 1) give
+      ∙ ap (λ (j : ℕ). X ++ new_posts j give) k)
       ∙ ap (λ (ps : List (Post Op)). v.post ∷ ps) (append_assoc X G v.gone)
 
   keeps : posts_of (keeper give v) ≡ F ++ v.gone
@@ -133,14 +136,15 @@ module _ {S Op : Type 0} (meaning : Meaning S Op) (laws : Lawful meaning) (o : O
   ws_is : ws ≡ (A ++ workers_of F) ++ ((workers_of v.gone ++ B) ++ (workers_of G ++ []))
   ws_is =
       all_joined (a ++ keeper give v ∷ b) (heir give v ∷ []) ∙ ap (λ ps. all_workers (a ++ keeper give v ∷ b) ++ (workers_of ps ++ [])) gives
-      ∙ ap (λ z. z ++ (workers_of G ++ [])) (all_joined a (keeper give v ∷ b) ∙ ap (λ ps. A ++ (workers_of ps ++ B)) keeps ∙ ap (λ z. A ++ (z ++ B)) (workers_joined F v.gone))
+      ∙ ap (λ z. z ++ (workers_of G ++ [])) (all_joined a (keeper give v ∷ b) ∙ ap (λ ps. A ++ (workers_of ps ++ B)) keeps
+      ∙ ap (λ z. A ++ (z ++ B)) (workers_joined F v.gone))
       ∙ new_order A (workers_of F) (workers_of G) (workers_of v.gone) B
 
   module _ (k : Kept meaning o m log (a ++ v ∷ b)) where
     abbrev N : Moment Op
-    N = moment_of meaning o m log ws
+    N = moment_of o m log ws
 
-    happens : Happens meaning s None (moment_of meaning o m log us) N
+    happens : Happens meaning None (moment_of o m log us) N
     happens = reordering.stretches_happen meaning laws o m log us ws (A ++ workers_of F) (workers_of G) (workers_of v.gone ++ B) [] us_is ws_is
 
     each_now : AllByRecursion (Agrees meaning o log N) (a ++ v ∷ b)
@@ -150,13 +154,13 @@ module _ {S Op : Type 0} (meaning : Meaning S Op) (laws : Lawful meaning) (o : O
     here = (all_right (Agrees meaning o log N) a (v ∷ b) each_now).0
 
     abbrev settled : List Entry
-    settled = (moment_of meaning o m log ws).progress.settled
+    settled = (moment_of o m log ws).progress.settled
 
     accounts : AllByRecursion (λ p. Account settled v.mine p.worker) (F ++ (G ++ v.gone))
     accounts = subst (AllByRecursion (λ p. Account settled v.mine p.worker)) stretches here.accounts
 
-    licences : AllByRecursion (IsLicensed meaning s N) (F ++ (G ++ v.gone))
-    licences = subst (AllByRecursion (IsLicensed meaning s N)) stretches here.licensed
+    licences : AllByRecursion (IsLicensed meaning N) (F ++ (G ++ v.gone))
+    licences = subst (AllByRecursion (IsLicensed meaning N)) stretches here.licensed
 
     keeper_agrees : Agrees meaning o log N (keeper give v)
     keeper_agrees = record {
@@ -166,8 +170,9 @@ module _ {S Op : Type 0} (meaning : Meaning S Op) (laws : Lawful meaning) (o : O
       bare = λ none. absurd (no_names (v.names - give) none (omega arith));
       items = here.items;
       counted = here.counted;
-      accounts = subst (AllByRecursion (λ p. Account settled v.mine p.worker)) (sym keeps) (two_of_three (λ p. Account settled v.mine p.worker) F G v.gone accounts);
-      licensed = subst (AllByRecursion (IsLicensed meaning s N)) (sym keeps) (two_of_three (IsLicensed meaning s N) F G v.gone licences);
+      accounts = subst (AllByRecursion (λ p. Account settled v.mine p.worker)) (sym keeps)
+          (two_of_three (λ p. Account settled v.mine p.worker) F G v.gone accounts);
+      licensed = subst (AllByRecursion (IsLicensed meaning N)) (sym keeps) (two_of_three (IsLicensed meaning N) F G v.gone licences);
       settled = here.settled;
       reads = here.reads;
       right = here.right;
@@ -176,7 +181,8 @@ module _ {S Op : Type 0} (meaning : Meaning S Op) (laws : Lawful meaning) (o : O
 
     different : HaveDifferentNames (workers_of (F ++ (G ++ v.gone)))
     different =
-        let all : HaveDifferentNames (A ++ (workers_of (posts_of v) ++ B)) = subst HaveDifferentNames (all_joined a (v ∷ b)) (laws.distinct s (moment_of meaning o m log us) k.holds) in
+        let all : HaveDifferentNames (A ++ (workers_of (posts_of v) ++ B)) =
+        subst HaveDifferentNames (all_joined a (v ∷ b)) (laws.named (moment_of o m log us) k.holds).different in
         let one = different_split A (workers_of (posts_of v) ++ B) all in
         subst (λ ps. HaveDifferentNames (workers_of ps)) stretches (different_split (workers_of (posts_of v)) B one.1).0
 
@@ -195,7 +201,7 @@ module _ {S Op : Type 0} (meaning : Meaning S Op) (laws : Lawful meaning) (o : O
       items = tt;
       counted = tt;
       accounts = subst (AllByRecursion (λ p. Account settled [] p.worker)) (sym gives) heir_accounts;
-      licensed = subst (AllByRecursion (IsLicensed meaning s N)) (sym gives) (middle_of (IsLicensed meaning s N) F G v.gone licences);
+      licensed = subst (AllByRecursion (IsLicensed meaning N)) (sym gives) (middle_of (IsLicensed meaning N) F G v.gone licences);
       settled = tt;
       reads = refl;
       right = tt;
@@ -204,7 +210,8 @@ module _ {S Op : Type 0} (meaning : Meaning S Op) (laws : Lawful meaning) (o : O
 
     pub splits_kept : Kept meaning o m log ((a ++ keeper give v ∷ b) ++ heir give v ∷ [])
     splits_kept = record {
-      holds = happens_holds meaning laws s None (moment_of meaning o m log us) N happens k.holds;
-      each = all_both (Agrees meaning o log N) (a ++ keeper give v ∷ b) (heir give v ∷ []) (all_put (Agrees meaning o log N) a b v (keeper give v) keeper_agrees each_now) (heir_agrees, tt);
+      holds = laws.keeps None (moment_of o m log us) N happens k.holds;
+      each = all_both (Agrees meaning o log N) (a ++ keeper give v ∷ b) (heir give v ∷ [])
+          (all_put (Agrees meaning o log N) a b v (keeper give v) keeper_agrees each_now) (heir_agrees, tt);
       longest = whole_front log (a ++ keeper give v ∷ b) (heir give v ∷ []) (whole_put log a b v (keeper give v) (λ e. e) k.longest);
     }

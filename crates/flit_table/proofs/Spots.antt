@@ -32,7 +32,8 @@ module _ {X : Type 0} where
     pub is : xs ≡ front ++ y ∷ (middle ++ x ∷ back)
     pub put : (p q : X) → set (set xs i p) j q ≡ front ++ q ∷ (middle ++ p ∷ back)
 
-  pub two_spots : (xs : List X) (i j : ℕ) (x y : X) → get_elem? xs i ≡ maybe.some x → get_elem? xs j ≡ maybe.some y → ¬ (j ≡ i) → InOrder xs i j x y ⊎ InOtherOrder xs i j x y
+  pub two_spots : (xs : List X) (i j : ℕ) (x y : X) → get_elem? xs i ≡ maybe.some x → get_elem? xs j ≡ maybe.some y → ¬ (j ≡ i) → InOrder xs i j x y
+      ⊎ InOtherOrder xs i j x y
   two_spots [] i j x y e f apart = absurd (maybe.some-ne-none x (sym e))
   two_spots (z ∷ xs) zero zero x y e f apart = absurd (apart refl)
   two_spots (z ∷ xs) zero (suc j) x y e f apart =
@@ -44,5 +45,19 @@ module _ {X : Type 0} where
   two_spots (z ∷ xs) (suc i) (suc j) x y e f apart = by_case (two_spots xs i j x y e f (λ q. apart (ap (λ n. suc n) q)))
     where
       by_case : InOrder xs i j x y ⊎ InOtherOrder xs i j x y → InOrder (z ∷ xs) (suc i) (suc j) x y ⊎ InOtherOrder (z ∷ xs) (suc i) (suc j) x y
-      by_case (inl r) = inl (record { front = z ∷ r.front; middle = r.middle; back = r.back; is = ap (λ ys. z ∷ ys) r.is; put = λ p q. ap (λ ys. z ∷ ys) (r.put p q) })
-      by_case (inr r) = inr (record { front = z ∷ r.front; middle = r.middle; back = r.back; is = ap (λ ys. z ∷ ys) r.is; put = λ p q. ap (λ ys. z ∷ ys) (r.put p q) })
+      by_case (inl r) = inl (record {
+        front = z ∷ r.front;
+        middle = r.middle;
+        back = r.back;
+        is = ap (λ ys. z ∷ ys) r.is;
+        put =
+            λ p q. ap (λ ys. z ∷ ys) (r.put p q);
+      })
+      by_case (inr r) = inr (record {
+        front = z ∷ r.front;
+        middle = r.middle;
+        back = r.back;
+        is = ap (λ ys. z ∷ ys) r.is;
+        put =
+            λ p q. ap (λ ys. z ∷ ys) (r.put p q);
+      })

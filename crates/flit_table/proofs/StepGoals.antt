@@ -29,29 +29,40 @@ place_within l (Persist word kept) h = omega arith
 place_within l (Store word to) h = omega arith
 place_within l Draw h = omega arith
 
-module _ {S Op : Type 0} (meaning : Meaning S Op) (laws : Lawful meaning) (key : Origin S) (id : TableId) (s : S) (inside : IsTableOf (meaning.layout s) s key id) where
+module _ {S Op : Type 0} (meanings : S → Meaning Op) (lawful : (x : S) → Lawful (meanings x)) (key : Origin S) (id : TableId) (s : S)
+    (inside : IsTableOf (meanings s).layout s key id) where
+  abbrev meaning : Meaning Op
+  meaning = meanings key.structure.value
+
   -- a step of the table for the event e at the word `at`
   abbrev pub Asked : Home S → Seat ℕ (View S Op) → Start → Event → ℕ → Type 0
   Asked home seat start e at =
       (seat.table_id ≡ id) × (at < id.words)
       × table.Allows (IsRuled meaning key) id.slots seat.id seat.me at (turns e)
-      (λ n me. ((p : Origin S) → seat.me.0.origin ≡ Some p → After meaning p (entering meaning p.structure.value start seat.me.0) (told_of e n) me.0) × (me.1 ≡ seat.me.1))
+      (λ n me. ((p : Origin S) → seat.me.0.origin ≡ Some p → After (meanings p.structure.value) p (entering (meanings p.structure.value) start seat.me.0)
+      (told_of e n) me.0) × (me.1 ≡ seat.me.1))
 
-  asked_here : (seat : Seat ℕ (View S Op)) (start : Start) (e : Event) (at : ℕ) → Belongs (record { origin = key; table_id = id }) seat → MayEnter meaning key.structure.value start seat.me.0.post →
-      asked_by meaning key.structure.value (entering meaning key.structure.value start seat.me.0).post.worker ≡ Some e → IsWithin (meaning.layout key.structure.value) e → at ≡ place_in (meaning.layout key.structure.value) e →
+  -- what the pass knows of it
+  pub record MayStep (home : Home S) (seat : Seat ℕ (View S Op)) (start : Start) (event : Event) : Type 0 where
+    pub belongs : Belongs home seat
+    pub may : MayEnter (meanings home.origin.structure.value) start seat.me.0.post
+    pub asked : asked_by (meanings home.origin.structure.value) (entering (meanings home.origin.structure.value) start seat.me.0).post.worker ≡ Some event
+    pub within : IsWithin (meanings home.origin.structure.value).layout event
+
+  asked_here : (seat : Seat ℕ (View S Op)) (start : Start) (e : Event) (at : ℕ) →
+      MayStep (record { origin = key; table_id = id }) seat start e → at ≡ place_in meaning.layout e →
       Asked (record { origin = key; table_id = id }) seat start e at
-  asked_here seat start e at b may asked within place =
-      let l = meaning.layout key.structure.value in
-      let words : id.words ≡ size_of l = inside.words ∙ ap (λ x. size_of (meaning.layout x)) (sym inside.structure) in
-      let short : place_in l e < id.words = subst (λ n. place_in l e < n) (sym words) (place_within l e within) in
+  asked_here seat start e at h place =
+      let l = meaning.layout in
+      let words : id.words ≡ size_of l = inside.words ∙ ap (λ x. size_of (meanings x).layout) (sym inside.structure) in
+      let short : place_in l e < id.words = subst (λ n. place_in l e < n) (sym words) (place_within l e h.within) in
       subst (λ n. Asked (record { origin = key; table_id = id }) seat start e n) (sym place)
-      (b.table, short, allows meaning laws key id.slots seat.id seat.me.0 seat.me.1 start e b.origin b.names may asked)
+      (h.belongs.table, short, allows meanings lawful key id.slots seat.id seat.me.0 seat.me.1 start e h.belongs.origin h.belongs.names h.may h.asked)
 
-  pub asked_step : (home : Home S) → record { origin = key; table_id = id } ≡ home → (seat : Seat ℕ (View S Op)) (start : Start) (event e : Event) (at : ℕ) → event ≡ e → Belongs home seat → MayEnter meaning home.origin.structure.value start seat.me.0.post →
-      asked_by meaning home.origin.structure.value (entering meaning home.origin.structure.value start seat.me.0).post.worker ≡ Some event → IsWithin (meaning.layout home.origin.structure.value) event → at ≡ place_in (meaning.layout s) e →
+  pub asked_step : (home : Home S) → record { origin = key; table_id = id } ≡ home → (seat : Seat ℕ (View S Op)) (start : Start) (event e : Event) (at : ℕ) →
+      event ≡ e → MayStep home seat start event → at ≡ place_in (meanings s).layout e →
       Asked home seat start e at
-  asked_step home is seat start event e at same b may asked within place =
-      subst (λ (h : Home S). Belongs h seat → MayEnter meaning h.origin.structure.value start seat.me.0.post →
-      asked_by meaning h.origin.structure.value (entering meaning h.origin.structure.value start seat.me.0).post.worker ≡ Some e → IsWithin (meaning.layout h.origin.structure.value) e → Asked h seat start e at) is
-      (λ x y z w. asked_here seat start e at x y z w (place ∙ ap (λ r. place_in (meaning.layout r) e) (sym inside.structure)))
-      b may (asked ∙ ap Some same) (subst (IsWithin (meaning.layout home.origin.structure.value)) same within)
+  asked_step home is seat start event e at same h place =
+      subst (λ (x : Home S). MayStep x seat start e → Asked x seat start e at) is
+      (λ k. asked_here seat start e at k (place ∙ ap (λ r. place_in (meanings r).layout e) (sym inside.structure)))
+      (subst (MayStep home seat start) same h)

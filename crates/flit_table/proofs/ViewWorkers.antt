@@ -80,6 +80,7 @@ module _ {S Op : Type 0} where
   all_around a b v h = all_joined a (v ∷ b) ∙ ap (λ ps. all_workers a ++ (workers_of ps ++ all_workers b)) (posts_head v h)
 
   -- what is true of all workers is true of those of each view
-  pub views_all : (P : Worker Op → Type 0) (vs : List (View S Op)) → AllByRecursion P (all_workers vs) → AllByRecursion (λ v. AllByRecursion P (workers_of (posts_of v))) vs
+  pub views_all : (P : Worker Op → Type 0) (vs : List (View S Op)) → AllByRecursion P (all_workers vs) →
+      AllByRecursion (λ v. AllByRecursion P (workers_of (posts_of v))) vs
   views_all P [] h = tt
   views_all P (v ∷ vs) h = (all_left P (workers_of (posts_of v)) (all_workers vs) h, views_all P vs (all_right P (workers_of (posts_of v)) (all_workers vs) h))

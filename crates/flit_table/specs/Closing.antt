@@ -3,7 +3,7 @@ use Rattle.std.specs.Prelude.{◌≡◌, ℕ, ◌+◌, ◌≤◌, ◌==◌, ◌&
 use Rattle.std.specs.FinMap as map_of
 use Rattle.std.specs.List.{AllByRecursion, list_any, range_with_len}
 use Rattle.atomic_table.specs.Table as table
-use Rattle.flit_image.specs.declared.images.Image.{Image}
+use Rattle.flit_model.specs.declared.found.Image.{Image}
 use Rattle.flit_words.specs.declared.layouts.Layout.{Layout}
 use Rattle.flit_words.specs.Words.{bare_of}
 use Rattle.flit_model.specs.CrashImages.{crash_image}
@@ -19,6 +19,7 @@ use Rattle.flit_structure.specs.Meanings.{Meaning}
 use Rattle.flit_structure.specs.Lawful.{IsRecoverable, IsUnfinished}
 use Rattle.flit_table.specs.declared.told.Evidence.{Evidence}
 use Rattle.flit_table.specs.declared.told.Known.{Known}
+use Rattle.flit_table.specs.declared.told.Told.{Told}
 use Rattle.flit_table.specs.declared.views.Logged.{Logged}
 use Rattle.flit_table.specs.declared.views.Origin.{Origin}
 use Rattle.flit_table.specs.declared.views.View.{View}
@@ -49,13 +50,17 @@ known_in l ahead image v = record { layout = l; ahead = ahead; image = image; up
 abbrev pub known_of : {S Op : Type 0} → Evidence S Op → Known
 known_of e = known_in e.layout.value e.ahead.value e.image.value e.held.value.seat.me.0
 
+-- what a Told tells
+abbrev pub told_by : Told → Known
+told_by t = t.seat.me.0
+
 abbrev pub keeps_nothing : {S Op : Type 0} → Evidence S Op → table.State ℕ Known → Type 0
 keeps_nothing e t = Unit {0}
 
-module _ {S Op : Type 0} (meaning : Meaning S Op) where
+module _ {S Op : Type 0} (meaning : Meaning Op) where
   -- each name from 1 to the layout's workers has its worker with the pass
-  abbrev pub HasAllNames : S → View S Op → Type 0
-  HasAllNames s v = (name : ℕ) → 1 ≤ name → name ≤ (meaning.layout s).workers → HasName name (posts_of v)
+  abbrev pub HasAllNames : View S Op → Type 0
+  HasAllNames v = (name : ℕ) → 1 ≤ name → name ≤ meaning.layout.workers → HasName name (posts_of v)
 
   -- what the table at the end says with the view of a pass, of the image that takes the values ahead that are picked
   pub record Closes (o : Origin S) (v : View S Op) (picks : ℕ → Bool) (image : List ℕ) : Type 0 where
@@ -64,17 +69,19 @@ module _ {S Op : Type 0} (meaning : Meaning S Op) where
     pub workers : List (Worker Op)
     -- the state in which the table is found, and its crash image, with the map after the settled updates and those that
     -- it takes
-    pub holds : meaning.holds o.structure.value (moment_of meaning o state log workers)
+    pub holds : meaning.holds (moment_of o state log workers)
     pub is_image : image ≡ crash_image picks state
-    pub recovers : IsRecoverable (meaning.layout o.structure.value) (content_of o) image (settled_in log ++ taken_updates (progress_of log) picks)
+    pub recovers : IsRecoverable meaning.layout (content_of o) image (settled_in log ++ taken_updates (progress_of log) picks)
     -- what waits is of calls without a reply, of different names
-    pub unfinished : (word : ℕ) (e : Entry) → map_of.get (progress_of log).waiting word ≡ Some e → IsUnfinished meaning o.structure.value workers e
-    pub one_each : (x y : ℕ) (d e : Entry) → map_of.get (progress_of log).waiting x ≡ Some d → map_of.get (progress_of log).waiting y ≡ Some e → d.worker ≡ e.worker → x ≡ y
+    pub unfinished : (word : ℕ) (e : Entry) → map_of.get (progress_of log).waiting word ≡ Some e → IsUnfinished meaning workers e
+    pub one_each : (x y : ℕ) (d e : Entry) → map_of.get (progress_of log).waiting x ≡ Some d → map_of.get (progress_of log).waiting y ≡ Some e →
+        d.worker ≡ e.worker → x ≡ y
     -- what the pass has seen begins it, and is legal with its reads; its names have their accounts
     pub sees : (more : List Entry) × (settled_in log ≡ updates_seen v ++ more)
     pub right : AllByRecursion (IsRightAt (content_of o) (updates_seen v)) v.placed
     pub history : IsLegal (content_of o) (history_seen v)
     pub accounts : AllByRecursion (λ p. Account (settled_in log) v.mine p.worker) (posts_of v)
-    pub bounded : AllByRecursion (IsWithinBounds meaning o.structure.value (moment_of meaning o state log workers)) (answered v.mine)
+    pub bounded : AllByRecursion (IsWithinBounds meaning (moment_of o state log workers)) (answered v.mine)
     -- a pass with all names has seen all, and what waits is of operations that it keeps
-    pub gathered : HasAllNames o.structure.value v → (settled_in log ≡ updates_seen v) × ((word : ℕ) (e : Entry) → map_of.get (progress_of log).waiting word ≡ Some e → IsUnfinished meaning o.structure.value (workers_of (posts_of v)) e)
+    pub gathered : HasAllNames v → (settled_in log ≡ updates_seen v) × ((word : ℕ) (e : Entry) → map_of.get (progress_of log).waiting word ≡ Some e →
+        IsUnfinished meaning (workers_of (posts_of v)) e)

@@ -5,4 +5,5 @@ pub mod Rule
 pub mod Steps
 pub mod Places
 pub mod Calls
+pub mod Passes
 pub mod Closing

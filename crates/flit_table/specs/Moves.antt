@@ -12,7 +12,7 @@ use Rattle.flit_pv.specs.Evicts.{evict_started, evict_asked}
 use Rattle.flit_structure.specs.declared.workers.Doing.{Doing}
 use Rattle.flit_structure.specs.declared.workers.Doing.TheVariants.{Idle, Busy, Evicting}
 use Rattle.flit_structure.specs.Moments.{busy, sweeper}
-use Rattle.flit_structure.specs.Meanings.{Meaning, MayStart, first_at, goes_on, hand_of, effect_by}
+use Rattle.flit_structure.specs.Meanings.{Meaning, MayStart, first_at, goes_on, hand_of, effect_by, replied, tally}
 use Rattle.flit_structure.specs.Lawful.{events_of_try}
 use Rattle.flit_table.specs.declared.views.Logged.{Logged}
 use Rattle.flit_table.specs.declared.views.Made.{Made}
@@ -48,32 +48,32 @@ module _ {Op : Type 0} where
   rests_after_evict doing hand None = Idle hand
   rests_after_evict doing hand (Some e) = doing
 
-module _ {S Op : Type 0} (meaning : Meaning S Op) (s : S) where
+module _ {Op : Type 0} (meaning : Meaning Op) where
   -- the post of a worker that begins a call or an evict, or goes on; and when it may
   abbrev pub entered : Start → Post Op → Post Op
   entered Go p = p
   entered (Begin call) p = record {
-    worker = busy p.worker.name (p.worker.number + 1) (meaning.begun s (hand_of meaning s p.worker) call) call None;
-    start = (hand_of meaning s p.worker).tally;
+    worker = busy p.worker.name (p.worker.number + 1) (meaning.begun (hand_of meaning p.worker) call) call None;
+    start = (hand_of meaning p.worker).tally;
     tried = 0;
   }
-  entered (Sweep word) p = record p { worker = sweeper p.worker.name p.worker.number (evict_started (hand_of meaning s p.worker) word) }
+  entered (Sweep word) p = record p { worker = sweeper p.worker.name p.worker.number (evict_started (hand_of meaning p.worker) word) }
 
   abbrev pub MayEnter : Start → Post Op → Type 0
   MayEnter Go p = Unit {0}
-  MayEnter (Begin call) p = (hand : Hand) × (p.worker.doing ≡ Idle hand) × MayStart (meaning.layout s) hand call
-  MayEnter (Sweep word) p = (hand : Hand) × (p.worker.doing ≡ Idle hand) × (word < words_of (meaning.layout s))
+  MayEnter (Begin call) p = (hand : Hand) × (p.worker.doing ≡ Idle hand) × MayStart meaning.layout hand call
+  MayEnter (Sweep word) p = (hand : Hand) × (p.worker.doing ≡ Idle hand) × (word < words_of meaning.layout)
 
   -- the number of an operation's events since its last search began, after its event
   abbrev pub tried_after : ℕ → Doing Op → ℕ → ℕ
   tried_after tried (Idle hand) told = tried
-  tried_after tried (Busy op call begun) told = events_of_try tried (meaning.tally s op) (meaning.tally s (meaning.taken s op told))
+  tried_after tried (Busy op call begun) told = events_of_try tried (tally meaning op) (tally meaning (meaning.taken op told))
   tried_after tried (Evicting evict) told = tried
 
   -- the post after its worker's event, when so many updates were settled before
   abbrev pub moved_post : ℕ → ℕ → Post Op → Post Op
   moved_post settled told p = record {
-    worker = record p.worker { doing = goes_on meaning s settled p.worker.doing told };
+    worker = record p.worker { doing = goes_on meaning settled p.worker.doing told };
     start = p.start;
     tried = tried_after p.tried p.worker.doing told;
   }
@@ -81,12 +81,12 @@ module _ {S Op : Type 0} (meaning : Meaning S Op) (s : S) where
   -- the item that is over when a worker is at this, and what the worker is at then
   abbrev pub over : ℕ → ℕ → Doing Op → List Made
   over name number (Idle hand) = []
-  over name number (Busy op call begun) = call_over name number call (meaning.replied s op)
+  over name number (Busy op call begun) = call_over name number call (replied meaning op)
   over name number (Evicting evict) = evict_over name evict (evict_asked evict)
 
   abbrev pub rests : Doing Op → Doing Op
   rests (Idle hand) = Idle hand
-  rests (Busy op call begun) = rests_after_call (Busy op call begun) (meaning.finished s op) (meaning.replied s op)
+  rests (Busy op call begun) = rests_after_call (Busy op call begun) (meaning.finished op) (replied meaning op)
   rests (Evicting evict) = rests_after_evict (Evicting evict) evict.hand (evict_asked evict)
 
   abbrev pub rested_post : Post Op → Post Op
@@ -95,21 +95,22 @@ module _ {S Op : Type 0} (meaning : Meaning S Op) (s : S) where
   abbrev pub over_at : Post Op → List Made
   over_at p = over p.worker.name p.worker.number p.worker.doing
 
+module _ {S Op : Type 0} (meaning : Meaning Op) where
   -- the view that begins something; the view whose worker has made an event, where the table had this log; and the view
   -- whose worker is done with its item, where it is, with the reads that have their places now
   abbrev pub entering : Start → View S Op → View S Op
-  entering start v = record v { post = entered start v.post }
+  entering start v = record v { post = entered meaning start v.post }
 
   abbrev pub having_moved : List Logged → Event → ℕ → View S Op → View S Op
   having_moved log e told v = record v {
-    post = moved_post (length (settled_in log)) told v.post;
-    log = log ++ logged_by e told (effect_by meaning s v.post.worker);
+    post = moved_post meaning (length (settled_in log)) told v.post;
+    log = log ++ logged_by e told (effect_by meaning v.post.worker);
     events = v.post.worker.name ∷ v.events;
   }
 
   abbrev pub having_rested : List Placed → View S Op → View S Op
   having_rested reads v = record v {
-    post = rested_post v.post;
-    mine = v.mine ++ over_at v.post;
+    post = rested_post meaning v.post;
+    mine = v.mine ++ over_at meaning v.post;
     placed = v.placed ++ reads;
   }

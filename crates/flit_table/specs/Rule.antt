@@ -58,24 +58,25 @@ module _ {S Op : Type 0} where
   HasWhole log [] = ⊥
   HasWhole log (v ∷ vs) = (v.log ≡ log) ⊎ HasWhole log vs
 
-module _ {S Op : Type 0} (meaning : Meaning S Op) where
   -- the moment of the table that was opened so
   abbrev pub moment_of : Origin S → State → List Logged → List (Worker Op) → Moment Op
   moment_of o m log us = record { opening = opening_of o; state = m; progress = progress_of log; workers = us }
 
+module _ {Op : Type 0} (meaning : Meaning Op) where
   -- an operation under way is licensed
-  abbrev pub IsLicensedIn : S → Moment Op → Post Op → Doing Op → Type 0
-  IsLicensedIn s M p (Idle hand) = Unit {0}
-  IsLicensedIn s M p (Busy op call begun) = meaning.licensed s M op p.start p.tried
-  IsLicensedIn s M p (Evicting evict) = Unit {0}
+  abbrev pub IsLicensedIn : Moment Op → Post Op → Doing Op → Type 0
+  IsLicensedIn M p (Idle hand) = Unit {0}
+  IsLicensedIn M p (Busy op call begun) = meaning.licensed M op p.start p.tried
+  IsLicensedIn M p (Evicting evict) = Unit {0}
 
-  abbrev pub IsLicensed : S → Moment Op → Post Op → Type 0
-  IsLicensed s M p = IsLicensedIn s M p p.worker.doing
+  abbrev pub IsLicensed : Moment Op → Post Op → Type 0
+  IsLicensed M p = IsLicensedIn M p p.worker.doing
 
   -- a call that was answered Full or Worn has its bound
-  abbrev pub IsWithinBounds : S → Moment Op → Entry → Type 0
-  IsWithinBounds s M e = IsBounded (meaning.layout s) (meaning.room s) M.state M.progress.settled e.reply
+  abbrev pub IsWithinBounds : Moment Op → Entry → Type 0
+  IsWithinBounds M e = IsBounded meaning.layout meaning.room M.state M.progress.settled e.reply
 
+module _ {S Op : Type 0} (meaning : Meaning Op) where
   -- what is true of a view at a moment with this log
   pub record Agrees (o : Origin S) (log : List Logged) (M : Moment Op) (v : View S Op) : Type 0 where
     pub opened : (p : Origin S) → v.origin ≡ Some p → p ≡ o
@@ -89,16 +90,16 @@ module _ {S Op : Type 0} (meaning : Meaning S Op) where
     pub counted : AllByRecursion (λ n. HasName n (used_of v)) v.events
     -- what has been said to the callers: of each name
     pub accounts : AllByRecursion (λ p. Account M.progress.settled v.mine p.worker) (posts_of v)
-    pub licensed : AllByRecursion (IsLicensed o.structure.value M) (posts_of v)
+    pub licensed : AllByRecursion (IsLicensed meaning M) (posts_of v)
     -- each update has been seen; each completed read has its place, where its reply is right; and each bound holds
     pub settled : AllByRecursion (StandsFrom 0 (updates_seen v)) (updates_in v.mine)
     pub reads : map (λ r. r.entry) v.placed ≡ reads_in v.mine
     pub right : AllByRecursion (IsRightAt (content_of o) (updates_seen v)) v.placed
-    pub bounded : AllByRecursion (IsWithinBounds o.structure.value M) (answered v.mine)
+    pub bounded : AllByRecursion (IsWithinBounds meaning M) (answered v.mine)
 
   -- the words, the log and the views belong together
   pub record Kept (o : Origin S) (m : State) (log : List Logged) (views : List (View S Op)) : Type 0 where
-    pub holds : meaning.holds o.structure.value (moment_of o m log (all_workers views))
+    pub holds : meaning.holds (moment_of o m log (all_workers views))
     pub each : AllByRecursion (Agrees o log (moment_of o m log (all_workers views))) views
     pub longest : HasWhole log views
 
@@ -110,4 +111,4 @@ module _ {S Op : Type 0} (meaning : Meaning S Op) where
     pub kept : Kept o state log t.views
 
   abbrev pub first_view : Origin S → View S Op
-  first_view o = newcomer o (meaning.layout o.structure.value).workers
+  first_view o = newcomer o meaning.layout.workers

@@ -6,7 +6,7 @@ use Rattle.flit_model.specs.Maps.{Map}
 use Rattle.flit_model.specs.Histories.{is_update, is_read, history_of}
 use Rattle.flit_model.specs.declared.calls.Entry.{Entry}
 use Rattle.flit_pv.specs.Hands.{no_tally}
-use Rattle.flit_recover.specs.declared.found.Recovered.{Recovered}
+use Rattle.flit_model.specs.declared.found.Recovered.{Recovered}
 use Rattle.flit_structure.specs.declared.workers.Worker.{Worker}
 use Rattle.flit_structure.specs.Moments.{Opening, hired}
 use Rattle.flit_table.specs.declared.views.Made.{Made}

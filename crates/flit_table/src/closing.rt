@@ -1,17 +1,16 @@
 ghost use Rattle.std.specs.Prelude.{◌≡◌, ℕ, ◌+◌, ◌*◌, ◌<◌, ◌==◌, true, false, None, Some, IfOk};
 ghost use Rattle.std.specs.List.{list_any};
 ghost use Rattle.std.specs.Mem.Slots.{IsFull, slots_len, slots_items};
-ghost use Rattle.flit_recover.specs.Copies.{IsImageOf};
-ghost use Rattle.flit_table.specs.Calls.{IsHeld};
-ghost use Rattle.flit_table.specs.Closing.{Closes, picks_of, taken_word, word_in, image_in, known_in};
-ghost use Rattle.flit_table.specs.Steps.{Home};
+ghost use Rattle.flit_model.specs.Recovery.{IsImageOf};
+ghost use Rattle.flit_table.specs.Passes.{BelongsTo, view_of};
+ghost use Rattle.flit_table.specs.Closing.{Closes, told_by, picks_of, taken_word, word_in, image_in, known_in};
+ghost use Rattle.flit_table.specs.Steps.{Home, meaning_of};
 
 use crate::passes::{Holder, Pass};
 use crate::running::Running;
 use crate::told::{Evidence, Told, tell};
 use atomic_table::Closed;
-use flit_image::Image;
-use flit_model::Ahead;
+use flit_model::{Ahead, Image};
 use flit_structure::Structure;
 use flit_words::{NoMemory, Word, bare};
 use std::alloc::Global;
@@ -28,11 +27,16 @@ impl<S: Structure> Running<S> {
         pass: Pass<S>,
         ahead: &Ahead,
     ) -> Result<(Image, Told), NoMemory>
-        requires { (home : Home S) × (running.old ≡ Some home) × IsHeld S.meaning home.origin.structure.value home pass.held }
+        requires { (home : Home S) × (running.old ≡ Some home) × BelongsTo S.meaning home pass }
         ensures gone { running.new ≡ None }
-        ensures closes { IfOk result (λ r. (home : Home S) → running.old ≡ Some home → Closes S.meaning home.origin pass.held.seat.me.0 (picks_of ahead.now) r.0.words.items) }
-        ensures shape { IfOk result (λ r. (home : Home S) → running.old ≡ Some home → IsImageOf (S.meaning.layout home.origin.structure.value) r.0) }
-        ensures told { IfOk result (λ r. (home : Home S) → running.old ≡ Some home → r.1.seat.me.0 ≡ known_in (S.meaning.layout home.origin.structure.value) ahead.now r.0 pass.held.seat.me.0) }
+        ensures closes { IfOk result (λ r. (home : Home S) → running.old ≡ Some home →
+            Closes (meaning_of S.meaning home) home.origin (view_of pass) (picks_of ahead.now)
+            r.0.words.items) }
+        ensures shape { IfOk result (λ r. (home : Home S) → running.old ≡ Some home →
+            IsImageOf (meaning_of S.meaning home).layout r.0) }
+        ensures told { IfOk result (λ r. (home : Home S) → running.old ≡ Some home →
+            told_by r.1 ≡ known_in (meaning_of S.meaning home).layout ahead.now r.0
+            (view_of pass)) }
     {
         let Some(inside) = running.take() else {
             unreachable!()
@@ -47,9 +51,7 @@ impl<S: Structure> Running<S> {
             name: _,
             names: _,
             calls: _,
-            hand: _,
-            tally: _,
-            unbegun: _,
+            rest: _,
         } = held;
         let closed = table.close_with(seat);
         let words = image_of_table(alloc, &closed, count, ahead);
@@ -106,7 +108,8 @@ fn all_or_none(
 ) -> Result<Vec<u64>, NoMemory>
     requires full { IsFull closed.now.words }
     requires long { 2 * count < slots_len closed.now.words }
-    ensures { IfOk result (λ v. v.items ≡ image_in (λ w. takes) count (slots_items closed.now.words)) }
+    ensures { IfOk result (λ v. v.items ≡ image_in (λ w. takes) count
+        (slots_items closed.now.words)) }
 {
     let mut image = Vec::with_capacity(alloc, count as usize)?;
     for word in 0..count {
@@ -120,7 +123,8 @@ fn take_ahead(closed: &Closed<u64, Global>, count: u32, image: &mut Vec<u64>, ch
     requires full { IsFull closed.now.words }
     requires long { 2 * count < slots_len closed.now.words }
     requires none { image.old.items ≡ image_in (λ w. false) count (slots_items closed.now.words) }
-    ensures { image.new.items ≡ image_in (λ w. list_any (λ v. v == w) chosen.now) count (slots_items closed.now.words) }
+    ensures { image.new.items ≡ image_in (λ w. list_any (λ v. v == w) chosen.now) count
+        (slots_items closed.now.words) }
 {
     for word in chosen {
         if *word < count {
@@ -138,7 +142,8 @@ fn image_of_table(
 ) -> Result<Vec<u64>, NoMemory>
     requires full { IsFull closed.now.words }
     requires long { 2 * count < slots_len closed.now.words }
-    ensures { IfOk result (λ v. v.items ≡ image_in (picks_of ahead.now) count (slots_items closed.now.words)) }
+    ensures { IfOk result (λ v. v.items ≡ image_in (picks_of ahead.now) count
+        (slots_items closed.now.words)) }
 {
     match ahead {
         Ahead::None => all_or_none(alloc, closed, count, false),

@@ -10,6 +10,9 @@ ghost use Rattle.flit_table.specs.Logs.{progress_from, progress_of, settled_in, 
 /// What an event appends to a log makes the progress read from the log what the event makes of it; and a longer log has
 /// settled what a shorter one has, first and in its order.
 pub fn logs_settle()
-    ensures follows { (log : List Logged) (m : State) (e : Event) (effect : Option Entry) → progress_of (log ++ logged_by e (answer m e) effect) ≡ progress_after (progress_of log) m e effect }
-    ensures grows { (log more : List Logged) → (between : List Entry) × (settled_in (log ++ more) ≡ settled_in log ++ between) }
+    ensures follows { (log : List Logged) (m : State) (e : Event) (effect : Option Entry) →
+        progress_of (log ++ logged_by e (answer m e) effect) ≡ progress_after (progress_of log) m e
+        effect }
+    ensures grows { (log more : List Logged) → (between : List Entry)
+        × (settled_in (log ++ more) ≡ settled_in log ++ between) }
 {}

@@ -1,6 +1,6 @@
-use crate::views::View;
+use crate::views::{Start, View};
 use atomic_table::Seat;
-use flit_model::{Call, Reply, Tally};
+use flit_model::{Reply, Tally};
 use flit_pv::Hand;
 use flit_structure::Structure;
 
@@ -13,6 +13,17 @@ pub enum Within {
     Stopped,
 }
 
+/// What a pass has between its calls.
+#[derive(Drop)]
+pub enum Rest<O> {
+    /// Its hand.
+    Hand(Hand),
+    /// The operation that ended last, with the hand in it; the next call begins in its place.
+    Ended(O),
+    /// Nothing, since the pass is stopped: its tally, and what it waits to begin.
+    Stopped { tally: Tally, start: Start },
+}
+
 /// What a pass has: its seat at the table, and of its view what the code needs.
 #[derive(Drop)]
 pub struct Holder<S, O> {
@@ -20,12 +31,7 @@ pub struct Holder<S, O> {
     pub(crate) name: u32,
     pub(crate) names: u32,
     pub(crate) calls: u32,
-    /// None where the pass is stopped.
-    pub(crate) hand: Option<Hand>,
-    /// The tally of a stopped pass.
-    pub(crate) tally: Tally,
-    /// The call that was stopped before its first event.
-    pub(crate) unbegun: Option<Call>,
+    pub(crate) rest: Rest<O>,
 }
 
 /// The right to make calls on a running structure under a name.
@@ -36,45 +42,37 @@ pub struct Pass<S: Structure> {
 
 impl<S: Structure> Pass<S> {
     ghost use Rattle.std.specs.Prelude.{◌≡◌};
-    ghost use Rattle.flit_table.specs.Steps.{Home};
-    ghost use Rattle.flit_table.specs.Calls.{IsHeld, is_stopped, tally_in, waiting};
-    ghost use Rattle.flit_table.specs.Moves.{entering};
+    ghost use Rattle.flit_table.specs.Passes.{own_name, own_names, own_calls, has_stopped};
 
     /// The pass's name.
     pub fn name(&self) -> u32
-        ensures { result ≡ self.now.held.name }
+        ensures { result ≡ own_name self.now }
     {
         self.held.name
     }
 
     /// How many names it owns.
     pub fn names(&self) -> u32
-        ensures { result ≡ self.now.held.names }
+        ensures { result ≡ own_names self.now }
     {
         self.held.names
     }
 
     /// How many calls were begun through this pass alone.
     pub fn calls(&self) -> u32
-        ensures { result ≡ self.now.held.calls }
+        ensures { result ≡ own_calls self.now }
     {
         self.held.calls
     }
 
     /// Whether it is stopped.
     pub fn is_stopped(&self) -> bool
-        ensures { result ≡ is_stopped self.now.held.hand }
+        ensures { result ≡ has_stopped self.now }
     {
-        self.held.hand.is_none()
-    }
-
-    /// The tally of its worker, with that of the call that it was stopped in.
-    pub fn tally(&self) -> Tally
-        ensures { (home : Home S) → IsHeld S.meaning home.origin.structure.value home self.now.held → result ≡ tally_in S.meaning home.origin.structure.value (entering S.meaning home.origin.structure.value (waiting self.now.held.unbegun) self.now.held.seat.me.0).post.worker.doing }
-    {
-        match &self.held.hand {
-            Some(hand) => hand.tally,
-            None => self.held.tally,
+        match &self.held.rest {
+            Rest::Hand(_) => false,
+            Rest::Ended(_) => false,
+            Rest::Stopped { .. } => true,
         }
     }
 }

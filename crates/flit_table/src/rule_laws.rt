@@ -24,31 +24,69 @@ use flit_structure::Structure;
 
 /// The rule holds of the table as it is opened, with the one view that has all names.
 pub fn rule_opens<S: Structure>()
-    ensures { (o : Origin S) → S.meaning.opens o.structure.value (opening_of o) → Kept S.meaning o (state_from (S.meaning.layout o.structure.value) (opening_of o).words) [] (first_view S.meaning o ∷ []) }
+    ensures { (o : Origin S) → (S.meaning o.structure.value).opens (opening_of o) →
+        Kept (S.meaning o.structure.value) o (state_from (S.meaning o.structure.value).layout
+        (opening_of o).words) [] (first_view (S.meaning o.structure.value) o ∷ []) }
 {}
 
 /// What the first worker of a view does keeps the rule: it begins a call or an evict; it makes the event that it asks
 /// for, of whatever kind; and it is done with its item, where that was the last. A completed read has its place then, not
 /// before what its call's first event found settled.
 pub fn steps_keep<S: Structure>()
-    ensures begins { (o : Origin S) (m : State) (log : List Logged) (a b : List (View S S.Op)) (v : View S S.Op) (start : Start) → 0 < v.names → MayEnter S.meaning o.structure.value start v.post → Kept S.meaning o m log (a ++ v ∷ b) → Kept S.meaning o m log (a ++ entering S.meaning o.structure.value start v ∷ b) }
-    ensures moves { (o : Origin S) (m : State) (log : List Logged) (a b : List (View S S.Op)) (v : View S S.Op) (e : Event) → 0 < v.names → asked_by S.meaning o.structure.value v.post.worker ≡ Some e → Kept S.meaning o m log (a ++ v ∷ b) → Kept S.meaning o (after m e) (log ++ logged_by e (answer m e) (effect_by S.meaning o.structure.value v.post.worker)) (a ++ having_moved S.meaning o.structure.value log e (answer m e) v ∷ b) }
-    ensures rests { (o : Origin S) (m : State) (log : List Logged) (a b : List (View S S.Op)) (v : View S S.Op) → 0 < v.names → v.log ≡ log → Kept S.meaning o m log (a ++ v ∷ b) → (reads : List Placed) × Kept S.meaning o m log (a ++ having_rested S.meaning o.structure.value reads v ∷ b) × AllByRecursion (λ r. first_in v.post.worker.doing ≤ r.position) reads }
+    ensures begins { (o : Origin S) (m : State) (log : List Logged) (a b : List (View S S.Op))
+        (v : View S S.Op) (start : Start) → 0 < v.names →
+        MayEnter (S.meaning o.structure.value) start v.post →
+        Kept (S.meaning o.structure.value) o m log (a ++ v ∷ b) →
+        Kept (S.meaning o.structure.value) o m log
+        (a ++ entering (S.meaning o.structure.value) start v ∷ b) }
+    ensures moves { (o : Origin S) (m : State) (log : List Logged) (a b : List (View S S.Op))
+        (v : View S S.Op) (e : Event) → 0 < v.names →
+        asked_by (S.meaning o.structure.value) v.post.worker ≡ Some e →
+        Kept (S.meaning o.structure.value) o m log (a ++ v ∷ b) →
+        Kept (S.meaning o.structure.value) o (after m e)
+        (log ++ logged_by e (answer m e) (effect_by (S.meaning o.structure.value) v.post.worker))
+        (a ++ having_moved (S.meaning o.structure.value) log e (answer m e) v ∷ b) }
+    ensures rests { (o : Origin S) (m : State) (log : List Logged) (a b : List (View S S.Op))
+        (v : View S S.Op) → 0 < v.names → v.log ≡ log →
+        Kept (S.meaning o.structure.value) o m log (a ++ v ∷ b) → (reads : List Placed)
+        × Kept (S.meaning o.structure.value) o m log
+        (a ++ having_rested (S.meaning o.structure.value) reads v ∷ b)
+        × AllByRecursion (λ r. first_in v.post.worker.doing ≤ r.position) reads }
 {}
 
 /// A pass that gives away its last names, and a pass that takes another in, keep the rule, wherever their views stand.
 pub fn seats_keep<S: Structure>()
-    ensures splits { (o : Origin S) (m : State) (log : List Logged) (a b : List (View S S.Op)) (v : View S S.Op) (give : ℕ) → 0 < give → give < v.names → Kept S.meaning o m log (a ++ v ∷ b) → Kept S.meaning o m log ((a ++ keeper give v ∷ b) ++ heir give v ∷ []) }
-    ensures joins { (o : Origin S) (m : State) (log : List Logged) (a b c : List (View S S.Op)) (v w : View S S.Op) → 0 < v.names → 0 < w.names → Kept S.meaning o m log (a ++ v ∷ (b ++ w ∷ c)) → Kept S.meaning o m log (a ++ both v w ∷ (b ++ spent ∷ c)) }
-    ensures joins_before { (o : Origin S) (m : State) (log : List Logged) (a b c : List (View S S.Op)) (v w : View S S.Op) → 0 < v.names → 0 < w.names → Kept S.meaning o m log (a ++ w ∷ (b ++ v ∷ c)) → Kept S.meaning o m log (a ++ spent ∷ (b ++ both v w ∷ c)) }
+    ensures splits { (o : Origin S) (m : State) (log : List Logged) (a b : List (View S S.Op))
+        (v : View S S.Op) (give : ℕ) → 0 < give → give < v.names →
+        Kept (S.meaning o.structure.value) o m log (a ++ v ∷ b) →
+        Kept (S.meaning o.structure.value) o m log ((a ++ keeper give v ∷ b) ++ heir give v ∷ []) }
+    ensures joins { (o : Origin S) (m : State) (log : List Logged) (a b c : List (View S S.Op))
+        (v w : View S S.Op) → 0 < v.names → 0 < w.names →
+        Kept (S.meaning o.structure.value) o m log (a ++ v ∷ (b ++ w ∷ c)) →
+        Kept (S.meaning o.structure.value) o m log (a ++ both v w ∷ (b ++ spent ∷ c)) }
+    ensures joins_before { (o : Origin S) (m : State) (log : List Logged)
+        (a b c : List (View S S.Op)) (v w : View S S.Op) → 0 < v.names → 0 < w.names →
+        Kept (S.meaning o.structure.value) o m log (a ++ w ∷ (b ++ v ∷ c)) →
+        Kept (S.meaning o.structure.value) o m log (a ++ spent ∷ (b ++ both v w ∷ c)) }
 {}
 
 /// Under the rule every crash image is lawful, and has the map after the settled updates and those that it takes; the
 /// names of all views are different; and what a pass has seen begins the settled updates and is legal, with its reads.
 pub fn rule_says<S: Structure>()
-    ensures crash { (o : Origin S) (m : State) (log : List Logged) (views : List (View S S.Op)) (picks : ℕ → Bool) → Kept S.meaning o m log views → IsRecoverable (S.meaning.layout o.structure.value) (content_of o) (crash_image picks m) (settled_in log ++ taken_updates (progress_of log) picks) }
-    ensures names { (o : Origin S) (m : State) (log : List Logged) (views : List (View S S.Op)) → Kept S.meaning o m log views → HaveDifferentNames (all_workers views) }
-    ensures seen { (o : Origin S) (m : State) (log : List Logged) (a b : List (View S S.Op)) (v : View S S.Op) → Kept S.meaning o m log (a ++ v ∷ b) → (more : List An_entry) × (settled_in log ≡ updates_seen v ++ more) }
-    ensures legal { (o : Origin S) (m : State) (log : List Logged) (a b : List (View S S.Op)) (v : View S S.Op) → Kept S.meaning o m log (a ++ v ∷ b) → IsLegal (content_of o) (updates_seen v) × IsLegal (content_of o) (history_seen v) }
-    ensures map { (o : Origin S) (m : State) (log : List Logged) (a b : List (View S S.Op)) (v : View S S.Op) → Kept S.meaning o m log (a ++ v ∷ b) → map_after_all (content_of o) (history_seen v) ≡ map_after_all (content_of o) (updates_seen v) }
+    ensures crash { (o : Origin S) (m : State) (log : List Logged) (views : List (View S S.Op))
+        (picks : ℕ → Bool) → Kept (S.meaning o.structure.value) o m log views →
+        IsRecoverable (S.meaning o.structure.value).layout (content_of o) (crash_image picks m)
+        (settled_in log ++ taken_updates (progress_of log) picks) }
+    ensures names { (o : Origin S) (m : State) (log : List Logged) (views : List (View S S.Op)) →
+        Kept (S.meaning o.structure.value) o m log views → HaveDifferentNames (all_workers views) }
+    ensures seen { (o : Origin S) (m : State) (log : List Logged) (a b : List (View S S.Op))
+        (v : View S S.Op) → Kept (S.meaning o.structure.value) o m log (a ++ v ∷ b) →
+        (more : List An_entry) × (settled_in log ≡ updates_seen v ++ more) }
+    ensures legal { (o : Origin S) (m : State) (log : List Logged) (a b : List (View S S.Op))
+        (v : View S S.Op) → Kept (S.meaning o.structure.value) o m log (a ++ v ∷ b) →
+        IsLegal (content_of o) (updates_seen v) × IsLegal (content_of o) (history_seen v) }
+    ensures map { (o : Origin S) (m : State) (log : List Logged) (a b : List (View S S.Op))
+        (v : View S S.Op) → Kept (S.meaning o.structure.value) o m log (a ++ v ∷ b) →
+        map_after_all (content_of o) (history_seen v) ≡ map_after_all (content_of o)
+        (updates_seen v) }
 {}

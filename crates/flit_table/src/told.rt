@@ -1,11 +1,10 @@
 ghost use Rattle.std.specs.Prelude.{◌≡◌, IfOk};
-ghost use Rattle.flit_table.specs.Closing.{known_of};
+ghost use Rattle.flit_table.specs.Closing.{known_of, told_by};
 
 use crate::passes::Holder;
 use crate::views::Made;
 use atomic_table::{Seat, Table, TableRule};
-use flit_image::Image;
-use flit_model::{Ahead, Entry, Placed};
+use flit_model::{Ahead, Entry, Image, Placed};
 use flit_words::{Layout, NoMemory};
 use std::alloc::Global;
 use std::collections::LinkedList;
@@ -54,7 +53,7 @@ impl<S, O> TableRule<u64, Known, Evidence<S, O>> for Telling<S, O> {
 
 /// Tells what was known.
 pub(crate) fn tell<S, O>(alloc: Global, evidence: &Evidence<S, O>) -> Result<Told, NoMemory>
-    ensures { IfOk result (λ t. t.seat.me.0 ≡ known_of evidence.now) }
+    ensures { IfOk result (λ t. told_by t ≡ known_of evidence.now) }
 {
     let words = vec![in alloc; 0; 1]?;
     let (_table, seat) = Table::<u64, Known, Evidence<S, O>, Telling<S, O>, Global>::of_words(

@@ -1,6 +1,5 @@
 use atomic_table::TableRule;
-use flit_model::{Call, Entry, Placed, Tally};
-use flit_recover::Recovered;
+use flit_model::{Call, Entry, Placed, Recovered, Tally};
 use flit_structure::{Structure, Worker};
 use std::collections::LinkedList;
 use std::marker::PhantomData;
@@ -77,7 +76,7 @@ pub struct Rule<S> {
 impl<S: Structure> TableRule<u64, View<S, S::Op>, Origin<S>> for Rule<S> {
     ghost use Rattle.flit_table.specs.Rule.{IsRuled, first_view};
 
-    ghost holds = { IsRuled S.meaning };
+    ghost holds = { λ o. IsRuled (S.meaning o.structure.value) o };
 
-    ghost first = { first_view S.meaning };
+    ghost first = { λ o. first_view (S.meaning o.structure.value) o };
 }

@@ -13,10 +13,11 @@ use Rattle.flit_model.specs.declared.calls.Reply.{Reply}
 use Rattle.flit_table.specs.declared.views.Made.{Made}
 use Rattle.flit_table.specs.declared.views.Made.TheVariants.{Answered, Evicted}
 use Rattle.flit_table.specs.declared.views.View.{View}
-use Rattle.flit_table.specs.declared.passes.Holder.{Holder}
+use Rattle.flit_table.specs.declared.passes.Pass.{Pass}
 use Rattle.flit_structure.specs.Meanings.{Meaning}
 use Rattle.flit_table.specs.Steps.{Home}
-use Rattle.flit_table.specs.Calls.{IsSamePass, IsHeld}
+use Rattle.flit_table.specs.Calls.{IsSamePass}
+use Rattle.flit_table.specs.Passes.{BelongsTo}
 use Rattle.flit_table.specs.Views.{name_of, answered}
 use Rattle.flit_table.proofs.Accounts.{answered-append}
 use Rattle.flit_table.proofs.LogLaws.{continues_same, continues_on}
@@ -54,7 +55,8 @@ module _ {S Op : Type 0} where
   }
 
   -- some items, and then others
-  pub grows_on : (name number m n : ℕ) (xs ys : List Made) (u v w : View S Op) → Grows name number xs m u v → Grows name (number + length (answered xs)) ys n v w → Grows name number (xs ++ ys) (m + n) u w
+  pub grows_on : (name number m n : ℕ) (xs ys : List Made) (u v w : View S Op) → Grows name number xs m u v →
+      Grows name (number + length (answered xs)) ys n v w → Grows name number (xs ++ ys) (m + n) u w
   grows_on name number m n xs ys u v w h k = record {
     same = same_on u v w h.same k.same;
     log = continues_on u.log v.log w.log h.log k.log;
@@ -72,22 +74,27 @@ abbrev outcome : Entry → Outcome
 outcome e = Replied e.reply
 
 -- a call more has its reply
-replied_more : (made : List Made) (e : Entry) (call : Call) (rest : List Item) → set (outcomes_of made (Call_item call ∷ rest)) (length (answered made)) (Replied e.reply) ≡ outcomes_of (made ++ Answered e ∷ []) rest
+replied_more : (made : List Made) (e : Entry) (call : Call) (rest : List Item) →
+    set (outcomes_of made (Call_item call ∷ rest)) (length (answered made)) (Replied e.reply) ≡ outcomes_of (made ++ Answered e ∷ []) rest
 replied_more made e call rest =
     let more : List Outcome = replicate (length (calls_in rest)) Stopped in
-    let left : set (map outcome (answered made) ++ Stopped ∷ more) (length (answered made)) (Replied e.reply) ≡ map outcome (answered made) ++ Replied e.reply ∷ more =
-    subst (λ (n : ℕ). set (map outcome (answered made) ++ Stopped ∷ more) n (Replied e.reply) ≡ map outcome (answered made) ++ Replied e.reply ∷ more) (length-map (answered made) outcome) (set_next (map outcome (answered made)) Stopped (Replied e.reply) more) in
+    let left : set (map outcome (answered made) ++ Stopped ∷ more) (length (answered made)) (Replied e.reply) ≡ map outcome (answered made) ++ Replied e.reply
+    ∷ more =
+    subst (λ (n : ℕ). set (map outcome (answered made) ++ Stopped ∷ more) n (Replied e.reply) ≡ map outcome (answered made) ++ Replied e.reply ∷ more)
+    (length-map (answered made) outcome) (set_next (map outcome (answered made)) Stopped (Replied e.reply) more) in
     left ∙ sym (append_assoc (map outcome (answered made)) (Replied e.reply ∷ []) more)
     ∙ ap (λ (l : List Outcome). l ++ more) (sym (map-append outcome (answered made) (e ∷ [])))
     ∙ ap (λ (l : List Entry). map outcome l ++ more) (sym (answered-append made (Answered e ∷ [])))
 
 -- an evict has no outcome
-evicted_more : (made : List Made) (name word : ℕ) (place : ℕ) (rest : List Item) → outcomes_of made (Evict_item place ∷ rest) ≡ outcomes_of (made ++ Evicted name word ∷ []) rest
+evicted_more : (made : List Made) (name word : ℕ) (place : ℕ) (rest : List Item) →
+    outcomes_of made (Evict_item place ∷ rest) ≡ outcomes_of (made ++ Evicted name word ∷ []) rest
 evicted_more made name word place rest =
     let more : List Outcome = replicate (length (calls_in rest)) Stopped in
     ap (λ (l : List Entry). map outcome l ++ more) (sym (append-nil (answered made)) ∙ sym (answered-append made (Evicted name word ∷ [])))
 
-front_more : (items : List Item) (k : ℕ) (d : Item) (made : List Made) (x : Made) → k < length items → map item_of made ≡ take k items → item_of x ≡ get_or items k d → map item_of (made ++ x ∷ []) ≡ take (k + 1) items
+front_more : (items : List Item) (k : ℕ) (d : Item) (made : List Made) (x : Made) → k < length items → map item_of made ≡ take k items →
+    item_of x ≡ get_or items k d → map item_of (made ++ x ∷ []) ≡ take (k + 1) items
 front_more items k d made x within front is =
     map-append item_of made (x ∷ []) ∙ ap (λ (l : List Item). l ++ item_of x ∷ []) front
     ∙ ap (λ (y : Item). take k items ++ y ∷ []) is ∙ sym (take_more items k d within)
@@ -101,48 +108,62 @@ answered_short (Answered e ∷ xs) = omega (arith, answered_short xs)
 answered_short (Evicted name word ∷ xs) = omega (arith, answered_short xs)
 
 module _ {S Op : Type 0} where
-  grows_by : (g h i : Holder S Op) (made : List Made) (x : Made) (count n replied : ℕ) → h.name ≡ g.name → h.calls ≡ g.calls + replied → replied ≡ length (answered made)
-      → Grows g.name g.calls made count g.seat.me.0 h.seat.me.0 → Grows h.name h.calls (x ∷ []) n h.seat.me.0 i.seat.me.0 → Grows g.name g.calls (made ++ x ∷ []) (count + n) g.seat.me.0 i.seat.me.0
+  grows_by : (g h i : Pass S Op) (made : List Made) (x : Made) (count n replied : ℕ) → h.held.name ≡ g.held.name → h.held.calls ≡ g.held.calls + replied →
+      replied ≡ length (answered made)
+      → Grows g.held.name g.held.calls made count g.held.seat.me.0 h.held.seat.me.0 →
+      Grows h.held.name h.held.calls (x ∷ []) n h.held.seat.me.0 i.held.seat.me.0 →
+      Grows g.held.name g.held.calls (made ++ x ∷ []) (count + n) g.held.seat.me.0 i.held.seat.me.0
   grows_by g h i made x count n replied name calls counted first second =
-      grows_on g.name g.calls count n made (x ∷ []) g.seat.me.0 h.seat.me.0 i.seat.me.0 first
-      (subst (λ (m : ℕ). Grows g.name m (x ∷ []) n h.seat.me.0 i.seat.me.0) (calls ∙ ap (λ (m : ℕ). g.calls + m) counted)
-      (subst (λ (m : ℕ). Grows m h.calls (x ∷ []) n h.seat.me.0 i.seat.me.0) name second))
+      grows_on g.held.name g.held.calls count n made (x ∷ []) g.held.seat.me.0 h.held.seat.me.0 i.held.seat.me.0 first
+      (subst (λ (m : ℕ). Grows g.held.name m (x ∷ []) n h.held.seat.me.0 i.held.seat.me.0) (calls ∙ ap (λ (m : ℕ). g.held.calls + m) counted)
+      (subst (λ (m : ℕ). Grows m h.held.calls (x ∷ []) n h.held.seat.me.0 i.held.seat.me.0) name second))
 
   -- a call more
-  pub made_call : (items : List Item) (k : ℕ) (d : Item) (os : List Outcome) (replied count n : ℕ) (r : Reply) (g h i : Holder S Op) → k < length items → h.name ≡ g.name
-      → HasMade items k os replied count g h → IsMade (get_or items k d) (Some r) n h i → HasMade items (k + 1) (set os replied (Replied r)) (replied + 1) (count + n) g i
+  pub made_call : (items : List Item) (k : ℕ) (d : Item) (os : List Outcome) (replied count n : ℕ) (r : Reply) (g h i : Pass S Op) → k < length items →
+      h.held.name ≡ g.held.name
+      → HasMade items k os replied count g h → IsMade (get_or items k d) (Some r) n h i →
+      HasMade items (k + 1) (set os replied (Replied r)) (replied + 1) (count + n) g i
   made_call items k d os replied count n r g h i within name m im = by_case im.made im.is im.replied im.calls im.grows
     where
-      by_case : (x : Made) → item_of x ≡ get_or items k d → reply_of x ≡ Some r → i.calls ≡ h.calls + length (answered (x ∷ [])) → Grows h.name h.calls (x ∷ []) n h.seat.me.0 i.seat.me.0 → HasMade items (k + 1) (set os replied (Replied r)) (replied + 1) (count + n) g i
+      by_case : (x : Made) → item_of x ≡ get_or items k d → reply_of x ≡ Some r → i.held.calls ≡ h.held.calls + length (answered (x ∷ [])) →
+          Grows h.held.name h.held.calls (x ∷ []) n h.held.seat.me.0 i.held.seat.me.0 →
+          HasMade items (k + 1) (set os replied (Replied r)) (replied + 1) (count + n) g i
       by_case (Evicted owner word) is rep calls grows = absurd (no_some r rep)
         where
           no_some : (y : Reply) → None ≡ Some y → ⊥
           no_some y e = cc
       by_case (Answered e) is rep calls grows =
           let reply : e.reply ≡ r = cc in
-          let from : os ≡ outcomes_of m.made (Call_item e.call ∷ drop (k + 1) items) = m.are ∙ ap (outcomes_of m.made) (next_item items k d (Call_item e.call) within is) in
+          let from : os ≡ outcomes_of m.made (Call_item e.call ∷ drop (k + 1) items) = m.are
+          ∙ ap (outcomes_of m.made) (next_item items k d (Call_item e.call) within is) in
           record {
             made = m.made ++ Answered e ∷ [];
             grows = grows_by g h i m.made (Answered e) count n replied name m.calls m.counted m.grows grows;
             front = front_more items k d m.made (Answered e) within m.front is;
-            are = ap (λ (l : List Outcome). set l replied (Replied r)) from ∙ ap (λ (j : ℕ). set (outcomes_of m.made (Call_item e.call ∷ drop (k + 1) items)) j (Replied r)) m.counted
-                ∙ ap (λ (y : Reply). set (outcomes_of m.made (Call_item e.call ∷ drop (k + 1) items)) (length (answered m.made)) (Replied y)) (sym reply) ∙ replied_more m.made e e.call (drop (k + 1) items);
-            counted = ap (λ (j : ℕ). j + 1) m.counted ∙ sym (length-append (answered m.made) (e ∷ [])) ∙ ap length (sym (answered-append m.made (Answered e ∷ [])));
+            are = ap (λ (l : List Outcome). set l replied (Replied r)) from ∙ ap
+                (λ (j : ℕ). set (outcomes_of m.made (Call_item e.call ∷ drop (k + 1) items)) j (Replied r)) m.counted
+                ∙ ap (λ (y : Reply). set (outcomes_of m.made (Call_item e.call ∷ drop (k + 1) items)) (length (answered m.made)) (Replied y)) (sym reply)
+                ∙ replied_more m.made e e.call (drop (k + 1) items);
+            counted = ap (λ (j : ℕ). j + 1) m.counted ∙ sym (length-append (answered m.made) (e ∷ []))
+                ∙ ap length (sym (answered-append m.made (Answered e ∷ [])));
             calls = calls ∙ ap (λ (j : ℕ). j + 1) m.calls ∙ omega arith;
           }
 
   -- an evict more
-  pub made_evict : (items : List Item) (k : ℕ) (d : Item) (os : List Outcome) (replied count n : ℕ) (g h i : Holder S Op) → k < length items → h.name ≡ g.name
+  pub made_evict : (items : List Item) (k : ℕ) (d : Item) (os : List Outcome) (replied count n : ℕ) (g h i : Pass S Op) → k < length items →
+      h.held.name ≡ g.held.name
       → HasMade items k os replied count g h → IsMade (get_or items k d) None n h i → HasMade items (k + 1) os replied (count + n) g i
   made_evict items k d os replied count n g h i within name m im = by_case im.made im.is im.replied im.calls im.grows
     where
-      by_case : (x : Made) → item_of x ≡ get_or items k d → reply_of x ≡ None → i.calls ≡ h.calls + length (answered (x ∷ [])) → Grows h.name h.calls (x ∷ []) n h.seat.me.0 i.seat.me.0 → HasMade items (k + 1) os replied (count + n) g i
+      by_case : (x : Made) → item_of x ≡ get_or items k d → reply_of x ≡ None → i.held.calls ≡ h.held.calls + length (answered (x ∷ [])) →
+          Grows h.held.name h.held.calls (x ∷ []) n h.held.seat.me.0 i.held.seat.me.0 → HasMade items (k + 1) os replied (count + n) g i
       by_case (Answered e) is rep calls grows = absurd (some_no e.reply rep)
         where
           some_no : (y : Reply) → Some y ≡ None → ⊥
           some_no y e = cc
       by_case (Evicted owner word) is rep calls grows =
-          let from : os ≡ outcomes_of m.made (Evict_item word ∷ drop (k + 1) items) = m.are ∙ ap (outcomes_of m.made) (next_item items k d (Evict_item word) within is) in
+          let from : os ≡ outcomes_of m.made (Evict_item word ∷ drop (k + 1) items) = m.are
+          ∙ ap (outcomes_of m.made) (next_item items k d (Evict_item word) within is) in
           record {
             made = m.made ++ Evicted owner word ∷ [];
             grows = grows_by g h i m.made (Evicted owner word) count n replied name m.calls m.counted m.grows grows;
@@ -153,10 +174,10 @@ module _ {S Op : Type 0} where
           }
 
   -- at the start nothing is made
-  pub made_none : (items : List Item) (g : Holder S Op) → HasMade items 0 (replicate (length (calls_in items)) Stopped) 0 0 g g
+  pub made_none : (items : List Item) (g : Pass S Op) → HasMade items 0 (replicate (length (calls_in items)) Stopped) 0 0 g g
   made_none items g = record {
     made = [];
-    grows = grows_none g.name g.calls g.seat.me.0;
+    grows = grows_none g.held.name g.held.calls g.held.seat.me.0;
     front = refl;
     are = refl;
     counted = refl;
@@ -164,27 +185,34 @@ module _ {S Op : Type 0} where
   }
 
   -- an item more
-  pub made_with_reply : (items : List Item) (k : ℕ) (d : Item) (os ps : List Outcome) (replied next count n : ℕ) (reply : Option Reply) (r : Reply) (g h i : Holder S Op) → k < length items → h.name ≡ g.name
-      → HasMade items k os replied count g h → IsMade (get_or items k d) reply n h i → reply ≡ Some r → ps ≡ set os replied (Replied r) → next ≡ replied + 1 → HasMade items (k + 1) ps next (count + n) g i
+  pub made_with_reply : (items : List Item) (k : ℕ) (d : Item) (os ps : List Outcome) (replied next count n : ℕ) (reply : Option Reply) (r : Reply)
+      (g h i : Pass S Op) → k < length items → h.held.name ≡ g.held.name
+      → HasMade items k os replied count g h → IsMade (get_or items k d) reply n h i → reply ≡ Some r → ps ≡ set os replied (Replied r) → next ≡ replied + 1 →
+      HasMade items (k + 1) ps next (count + n) g i
   made_with_reply items k d os ps replied next count n reply r g h i within name m im is ps_are next_is =
       subst (λ (l : List Outcome). HasMade items (k + 1) l next (count + n) g i) (sym ps_are)
       (subst (λ (j : ℕ). HasMade items (k + 1) (set os replied (Replied r)) j (count + n) g i) (sym next_is)
       (made_call items k d os replied count n r g h i within name m (subst (λ (o : Option Reply). IsMade (get_or items k d) o n h i) is im)))
 
-  pub made_without_reply : (items : List Item) (k : ℕ) (d : Item) (os ps : List Outcome) (replied next count n : ℕ) (reply : Option Reply) (g h i : Holder S Op) → k < length items → h.name ≡ g.name
-      → HasMade items k os replied count g h → IsMade (get_or items k d) reply n h i → reply ≡ None → ps ≡ os → next ≡ replied → HasMade items (k + 1) ps next (count + n) g i
+  pub made_without_reply : (items : List Item) (k : ℕ) (d : Item) (os ps : List Outcome) (replied next count n : ℕ) (reply : Option Reply) (g h i : Pass S Op) →
+      k < length items → h.held.name ≡ g.held.name
+      → HasMade items k os replied count g h → IsMade (get_or items k d) reply n h i → reply ≡ None → ps ≡ os → next ≡ replied →
+      HasMade items (k + 1) ps next (count + n) g i
   made_without_reply items k d os ps replied next count n reply g h i within name m im is ps_are next_is =
       subst (λ (l : List Outcome). HasMade items (k + 1) l next (count + n) g i) (sym ps_are)
       (subst (λ (j : ℕ). HasMade items (k + 1) os j (count + n) g i) (sym next_is)
       (made_evict items k d os replied count n g h i within name m (subst (λ (o : Option Reply). IsMade (get_or items k d) o n h i) is im)))
 
   -- no more calls are made than items
-  pub made_few : (items : List Item) (k : ℕ) (os : List Outcome) (replied count : ℕ) (g h : Holder S Op) → k ≤ length items → HasMade items k os replied count g h → replied ≤ k
+  pub made_few : (items : List Item) (k : ℕ) (os : List Outcome) (replied count : ℕ) (g h : Pass S Op) → k ≤ length items →
+      HasMade items k os replied count g h → replied ≤ k
   made_few items k os replied count g h within m =
       omega (arith, m.counted, answered_short m.made, sym (length-map m.made item_of) ∙ ap length m.front ∙ length-take-le k items within)
 
   -- the worker is at its end
-  pub worked_here : (items : List Item) (k : ℕ) (os : List Outcome) (replied count : ℕ) (stop : Option ℕ) (g h : Holder S Op) → HasMade items k os replied count g h → EndsAt stop count (drop k items) → IsWorked items stop os g.name g.calls g.seat.me.0 h.seat.me.0
+  pub worked_here : (items : List Item) (k : ℕ) (os : List Outcome) (replied count : ℕ) (stop : Option ℕ) (g h : Pass S Op) →
+      HasMade items k os replied count g h → EndsAt stop count (drop k items) →
+      IsWorked items stop os g.held.name g.held.calls g.held.seat.me.0 h.held.seat.me.0
   worked_here items k os replied count stop g h m ends = record {
     made = m.made;
     count = count;
@@ -196,16 +224,18 @@ module _ {S Op : Type 0} where
   }
 
   -- it was stopped within an item
-  pub worked_stopped : (items : List Item) (k : ℕ) (os : List Outcome) (replied count n : ℕ) (stop : Option ℕ) (g h i : Holder S Op) → h.name ≡ g.name → HasMade items k os replied count g h
-      → Grows h.name h.calls [] n h.seat.me.0 i.seat.me.0 → EndsAt stop (count + n) (drop k items) → IsWorked items stop os g.name g.calls g.seat.me.0 i.seat.me.0
+  pub worked_stopped : (items : List Item) (k : ℕ) (os : List Outcome) (replied count n : ℕ) (stop : Option ℕ) (g h i : Pass S Op) → h.held.name ≡ g.held.name →
+      HasMade items k os replied count g h
+      → Grows h.held.name h.held.calls [] n h.held.seat.me.0 i.held.seat.me.0 → EndsAt stop (count + n) (drop k items) →
+      IsWorked items stop os g.held.name g.held.calls g.held.seat.me.0 i.held.seat.me.0
   worked_stopped items k os replied count n stop g h i name m cut ends =
-      let on = grows_on g.name g.calls count n m.made [] g.seat.me.0 h.seat.me.0 i.seat.me.0 m.grows
-      (subst (λ (j : ℕ). Grows g.name j [] n h.seat.me.0 i.seat.me.0) (m.calls ∙ ap (λ (j : ℕ). g.calls + j) m.counted)
-      (subst (λ (j : ℕ). Grows j h.calls [] n h.seat.me.0 i.seat.me.0) name cut)) in
+      let on = grows_on g.held.name g.held.calls count n m.made [] g.held.seat.me.0 h.held.seat.me.0 i.held.seat.me.0 m.grows
+      (subst (λ (j : ℕ). Grows g.held.name j [] n h.held.seat.me.0 i.held.seat.me.0) (m.calls ∙ ap (λ (j : ℕ). g.held.calls + j) m.counted)
+      (subst (λ (j : ℕ). Grows j h.held.calls [] n h.held.seat.me.0 i.held.seat.me.0) name cut)) in
       record {
         made = m.made;
         count = count + n;
-        grows = subst (λ (l : List Made). Grows g.name g.calls l (count + n) g.seat.me.0 i.seat.me.0) (append-nil m.made) on;
+        grows = subst (λ (l : List Made). Grows g.held.name g.held.calls l (count + n) g.held.seat.me.0 i.held.seat.me.0) (append-nil m.made) on;
         rest = drop k items;
         front = sym (take-append-drop k items) ∙ ap (λ (l : List Item). l ++ drop k items) (sym m.front);
         ends = ends;
@@ -213,8 +243,9 @@ module _ {S Op : Type 0} where
       }
 
 -- a pass keeps its name
-pub held_name : {S Op : Type 0} (meaning : Meaning S Op) (s : S) (home : Home S) (g h : Holder S Op) → IsHeld meaning s home g → IsHeld meaning s home h → IsSamePass g.seat.me.0 h.seat.me.0 → h.name ≡ g.name
-held_name meaning s home g h a b same = b.name ∙ same.name ∙ sym a.name
+pub held_name : {S Op : Type 0} (meanings : S → Meaning Op) (home : Home S) (g h : Pass S Op) → BelongsTo meanings home g → BelongsTo meanings home h →
+    IsSamePass g.held.seat.me.0 h.held.seat.me.0 → h.held.name ≡ g.held.name
+held_name meanings home g h a b same = b.name ∙ same.name ∙ sym a.name
 
 -- where a worker ends that has a stop
 pub ends_at_stop : (stop n : ℕ) (rest : List Item) → n ≡ stop → EndsAt (Some stop) n rest

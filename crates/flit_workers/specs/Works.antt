@@ -1,5 +1,5 @@
 -- What a worker makes of its Work: its items from the front, each as `mine` of its pass has it, with their replies.
-use Rattle.std.specs.Prelude.{◌≡◌, ℕ, ◌+◌, ◌<◌, ◌≤◌, List, [], ◌∷◌, ◌++◌, map, take, drop, length, replicate, Option, Some, None, IsSome}
+use Rattle.std.specs.Prelude.{◌≡◌, ℕ, ◌+◌, ◌<◌, ◌≤◌, List, [], ◌∷◌, ◌++◌, map, take, drop, length, replicate, Option, Some, None}
 use Rattle.std.specs.List.{AllByRecursion}
 use Rattle.flit_words.specs.declared.layouts.Layout.{Layout}
 use Rattle.flit_words.specs.Layouts.{words_of}
@@ -14,8 +14,9 @@ use Rattle.flit_structure.specs.Meanings.{IsServed}
 use Rattle.flit_table.specs.declared.views.Made.{Made as Made_item}
 use Rattle.flit_table.specs.declared.views.Made.TheVariants.{Answered, Evicted}
 use Rattle.flit_table.specs.declared.views.View.{View}
-use Rattle.flit_table.specs.declared.passes.Holder.{Holder}
+use Rattle.flit_table.specs.declared.passes.Pass.{Pass}
 use Rattle.flit_table.specs.Calls.{IsSamePass}
+use Rattle.flit_table.specs.Passes.{view_of, own_name, own_calls, IsFree}
 use Rattle.flit_table.specs.Logs.{Continues}
 use Rattle.flit_table.specs.Views.{name_of, answered}
 use Rattle.flit_workers.specs.declared.items.Came.{Came}
@@ -67,18 +68,18 @@ module _ {S Op : Type 0} where
     pub events : w.events ≡ replicate count name ++ v.events
 
   -- an item has its reply, where it is a call, and the pass its hand
-  pub record IsMade (item : Item) (reply : Option Reply) (count : ℕ) (g h : Holder S Op) : Type 0 where
-    pub free : IsSome h.hand
+  pub record IsMade (item : Item) (reply : Option Reply) (count : ℕ) (g h : Pass S Op) : Type 0 where
+    pub free : IsFree h
     pub made : Made_item
     pub is : item_of made ≡ item
     pub replied : reply_of made ≡ reply
-    pub calls : h.calls ≡ g.calls + length (answered (made ∷ []))
-    pub grows : Grows g.name g.calls (made ∷ []) count g.seat.me.0 h.seat.me.0
+    pub calls : own_calls h ≡ own_calls g + length (answered (made ∷ []))
+    pub grows : Grows (own_name g) (own_calls g) (made ∷ []) count (view_of g) (view_of h)
 
   -- an item came out so, which may make so many events
-  abbrev pub IsMadeWithin : Item → ℕ → Holder S Op → Holder S Op → Came → Type 0
+  abbrev pub IsMadeWithin : Item → ℕ → Pass S Op → Pass S Op → Came → Type 0
   IsMadeWithin item steps g h (Made reply count) = (count ≤ steps) × IsMade item reply count g h
-  IsMadeWithin item steps g h Stopped = Grows g.name g.calls [] steps g.seat.me.0 h.seat.me.0
+  IsMadeWithin item steps g h Stopped = Grows (own_name g) (own_calls g) [] steps (view_of g) (view_of h)
 
   -- a worker has made its items from the front, in order, and has gone on to its end; of its calls, the first is behind
   -- this number
@@ -92,10 +93,10 @@ module _ {S Op : Type 0} where
     pub are : outcomes ≡ outcomes_of made rest
 
   -- a worker has made so many of its items
-  pub record HasMade (items : List Item) (at : ℕ) (outcomes : List Outcome) (replied count : ℕ) (g h : Holder S Op) : Type 0 where
+  pub record HasMade (items : List Item) (at : ℕ) (outcomes : List Outcome) (replied count : ℕ) (g h : Pass S Op) : Type 0 where
     pub made : List Made_item
-    pub grows : Grows g.name g.calls made count g.seat.me.0 h.seat.me.0
+    pub grows : Grows (own_name g) (own_calls g) made count (view_of g) (view_of h)
     pub front : map item_of made ≡ take at items
     pub are : outcomes ≡ outcomes_of made (drop at items)
     pub counted : replied ≡ length (answered made)
-    pub calls : h.calls ≡ g.calls + replied
+    pub calls : own_calls h ≡ own_calls g + replied

@@ -2,7 +2,9 @@ ghost use Rattle.std.specs.Prelude.{◌≡◌, ℕ, ◌+◌, ◌-◌, ◌<◌, �
 ghost use Rattle.flit_words.specs.Layouts.{words_of};
 ghost use Rattle.flit_structure.specs.Meanings.{IsServed};
 ghost use Rattle.flit_table.specs.declared.views.Made.TheVariants.{Answered, Evicted};
-ghost use Rattle.flit_table.specs.Calls.{IsHeld, entry_of};
+ghost use Rattle.flit_table.specs.Calls.{entry_of};
+ghost use Rattle.flit_table.specs.Passes.{BelongsTo, MayWork, MayCall, MayEvict, IsFree, view_of, own_name, own_calls};
+ghost use Rattle.flit_table.specs.Steps.{meaning_of};
 ghost use Rattle.flit_workers.specs.Works.{Grows, IsRightItem, IsMade, IsMadeWithin};
 
 use crate::gates::Gate;
@@ -27,13 +29,15 @@ fn call_within<S: Structure>(
     call: Call,
     steps: u64,
 ) -> Option<(Reply, u64)>
-    requires pass { IsHeld S.meaning running.now.origin.structure.value running.now pass.old.held }
-    requires free { IsSome pass.old.held.hand }
-    requires served { IsServed (S.meaning.layout running.now.origin.structure.value) call }
-    requires count { pass.old.held.calls < 4294967295 }
-    ensures pass { IsHeld S.meaning running.now.origin.structure.value running.now pass.new.held }
-    ensures done { IfSome result (λ r. IsSome pass.new.held.hand × (pass.new.held.calls ≡ pass.old.held.calls + 1) × (r.1 ≤ steps) × Grows pass.old.held.name pass.old.held.calls (Answered (entry_of pass.old.held.name (pass.old.held.calls + 1) call r.0) ∷ []) r.1 pass.old.held.seat.me.0 pass.new.held.seat.me.0) }
-    ensures stopped { IfNone result (Grows pass.old.held.name pass.old.held.calls [] steps pass.old.held.seat.me.0 pass.new.held.seat.me.0) }
+    requires { MayCall S.meaning running.now pass.old call }
+    ensures pass { BelongsTo S.meaning running.now pass.new }
+    ensures done { IfSome result (λ r. IsFree pass.new
+        × (own_calls pass.new ≡ own_calls pass.old + 1) × (r.1 ≤ steps)
+        × Grows (own_name pass.old) (own_calls pass.old)
+        (Answered (entry_of (own_name pass.old) (own_calls pass.old + 1) call r.0) ∷ []) r.1
+        (view_of pass.old) (view_of pass.new)) }
+    ensures stopped { IfNone result (Grows (own_name pass.old) (own_calls pass.old) [] steps
+        (view_of pass.old) (view_of pass.new)) }
 {
     match running.answer_within(pass, call, steps) {
         Within::Done { reply, made } => Some((reply, made)),
@@ -49,12 +53,11 @@ pub(crate) fn item_within<S: Structure, G: Gate>(
     steps: u64,
     gate: &G,
 ) -> Came
-    requires pass { IsHeld S.meaning running.now.origin.structure.value running.now pass.old.held }
-    requires free { IsSome pass.old.held.hand }
-    requires right { IsRightItem (S.meaning.layout running.now.origin.structure.value) item }
-    requires count { pass.old.held.calls < 4294967295 }
-    ensures pass { IsHeld S.meaning running.now.origin.structure.value running.now pass.new.held }
-    ensures made { IsMadeWithin item steps pass.old.held pass.new.held result }
+    requires pass { MayWork S.meaning running.now pass.old }
+    requires right { IsRightItem (meaning_of S.meaning running.now).layout item }
+    requires count { own_calls pass.old < 4294967295 }
+    ensures pass { BelongsTo S.meaning running.now pass.new }
+    ensures made { IsMadeWithin item steps pass.old pass.new result }
 {
     match item {
         Item::Call(call) => {
@@ -88,23 +91,23 @@ fn call<S: Structure, R: Wait>(
     pass: &mut Pass<S>,
     call: Call,
 ) -> Reply
-    requires pass { IsHeld S.meaning running.now.origin.structure.value running.now pass.old.held }
-    requires free { IsSome pass.old.held.hand }
-    requires served { IsServed (S.meaning.layout running.now.origin.structure.value) call }
-    requires count { pass.old.held.calls < 4294967295 }
-    ensures pass { IsHeld S.meaning running.now.origin.structure.value running.now pass.new.held }
-    ensures done { IsSome pass.new.held.hand × (pass.new.held.calls ≡ pass.old.held.calls + 1) × ((count : ℕ) × Grows pass.old.held.name pass.old.held.calls (Answered (entry_of pass.old.held.name (pass.old.held.calls + 1) call result) ∷ []) count pass.old.held.seat.me.0 pass.new.held.seat.me.0) }
+    requires { MayCall S.meaning running.now pass.old call }
+    ensures pass { BelongsTo S.meaning running.now pass.new }
+    ensures done { IsFree pass.new × (own_calls pass.new ≡ own_calls pass.old + 1)
+        × ((count : ℕ) × Grows (own_name pass.old) (own_calls pass.old)
+        (Answered (entry_of (own_name pass.old) (own_calls pass.old + 1) call result) ∷ []) count
+        (view_of pass.old) (view_of pass.new)) }
 {
     running.answer(rt, pass, call)
 }
 
 // Writes a word back, in two events.
 fn evict<S: Structure>(running: &Running<S>, pass: &mut Pass<S>, word: u32)
-    requires pass { IsHeld S.meaning running.now.origin.structure.value running.now pass.old.held }
-    requires free { IsSome pass.old.held.hand }
-    requires range { word < words_of (S.meaning.layout running.now.origin.structure.value) }
-    ensures pass { IsHeld S.meaning running.now.origin.structure.value running.now pass.new.held }
-    ensures done { IsSome pass.new.held.hand × (pass.new.held.calls ≡ pass.old.held.calls) × Grows pass.old.held.name pass.old.held.calls (Evicted pass.old.held.name word ∷ []) 2 pass.old.held.seat.me.0 pass.new.held.seat.me.0 }
+    requires { MayEvict S.meaning running.now pass.old word }
+    ensures pass { BelongsTo S.meaning running.now pass.new }
+    ensures done { IsFree pass.new × (own_calls pass.new ≡ own_calls pass.old)
+        × Grows (own_name pass.old) (own_calls pass.old) (Evicted (own_name pass.old) word ∷ []) 2
+        (view_of pass.old) (view_of pass.new) }
 {
     if !running.evict(pass, word, 2) {
         unreachable!()
@@ -119,12 +122,11 @@ pub(crate) fn item_made<S: Structure, G: Gate, R: Wait>(
     item: Item,
     gate: &G,
 ) -> Option<Reply>
-    requires pass { IsHeld S.meaning running.now.origin.structure.value running.now pass.old.held }
-    requires free { IsSome pass.old.held.hand }
-    requires right { IsRightItem (S.meaning.layout running.now.origin.structure.value) item }
-    requires count { pass.old.held.calls < 4294967295 }
-    ensures pass { IsHeld S.meaning running.now.origin.structure.value running.now pass.new.held }
-    ensures made { (count : ℕ) × IsMade item result count pass.old.held pass.new.held }
+    requires pass { MayWork S.meaning running.now pass.old }
+    requires right { IsRightItem (meaning_of S.meaning running.now).layout item }
+    requires count { own_calls pass.old < 4294967295 }
+    ensures pass { BelongsTo S.meaning running.now pass.new }
+    ensures made { (count : ℕ) × IsMade item result count pass.old pass.new }
 {
     match item {
         Item::Call(asked) => {

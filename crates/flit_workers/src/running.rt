@@ -1,7 +1,8 @@
 ghost use Rattle.std.specs.Prelude.{◌≡◌, ℕ, ◌+◌, ◌<◌, ◌≤◌, [], All, IsSome, IfOk, IfErr, OnOk, length, map, slice_index_or};
 ghost use Rattle.std.specs.List.{AllByRecursion};
 ghost use Rattle.std.specs.Vec.{vec_capacity, vec_len};
-ghost use Rattle.flit_table.specs.Calls.{IsHeld};
+ghost use Rattle.flit_table.specs.Passes.{BelongsTo, MayWork, view_of, own_name, own_names, own_calls};
+ghost use Rattle.flit_table.specs.Steps.{meaning_of};
 ghost use Rattle.flit_workers.specs.declared.ends.End.{End};
 ghost use Rattle.flit_workers.specs.Ends.{AreRight, IsRoom, MayRun, HasRun, AreReady, HaveEnded};
 
@@ -42,7 +43,8 @@ fn run_all<S: Structure<Op: Send> + Send + Sync, G: Gate + Sync, R: Threads + Wa
     requires some { 0 < length ends.old }
     requires may { All (MayRun S.meaning running.now) ends.old }
     ensures count { length ends.new ≡ length ends.old }
-    ensures run { (n : ℕ) (e : End S S.Op) → n < length ends.old → HasRun S.meaning running.now (slice_index_or ends.old n e) (slice_index_or ends.new n e) }
+    ensures run { (n : ℕ) (e : End S S.Op) → n < length ends.old →
+        HasRun S.meaning running.now (slice_index_or ends.old n e) (slice_index_or ends.new n e) }
 {
     let threads = ends.len();
     for_each_mut(
@@ -63,15 +65,15 @@ fn hand_out<S: Structure>(
     rooms: Vec<Room>,
     ends: &mut Vec<End<S>>,
 )
-    requires pass { IsHeld S.meaning running.now.origin.structure.value running.now pass.held }
-    requires free { IsSome pass.held.hand }
-    requires calls { pass.held.calls ≡ 0 }
-    requires names { length rooms.items ≡ pass.held.names }
+    requires pass { MayWork S.meaning running.now pass }
+    requires calls { own_calls pass ≡ 0 }
+    requires names { length rooms.items ≡ own_names pass }
     requires rooms { AllByRecursion IsRoom rooms.items }
     requires ends { ends.old.items ≡ [] }
     requires len { vec_len ends.old ≡ 0 }
     requires capacity { length rooms.items ≤ vec_capacity ends.old }
-    ensures { AreReady S.meaning running.now pass.held.seat.me.0 (map (λ r. r.work) rooms.items) ends.new.items }
+    ensures { AreReady S.meaning running.now (view_of pass) (map (λ r. r.work) rooms.items)
+        ends.new.items }
 {
     let mut left = pass.names();
     for room in rooms {
@@ -108,11 +110,12 @@ pub fn run_workers<S: Structure<Op: Send> + Send + Sync, G: Gate + Sync, R: Thre
     work: Vec<Work>,
     gate: &G,
 ) -> Result<Vec<End<S>>, (Pass<S>, NoMemory)>
-    requires pass { IsHeld S.meaning running.now.origin.structure.value running.now pass.held }
-    requires free { IsSome pass.held.hand }
-    requires calls { pass.held.calls ≡ 0 }
-    requires works { AreRight (S.meaning.layout running.now.origin.structure.value) pass.held.names work.items }
-    ensures ended { IfOk result (λ ends. HaveEnded S.meaning running.now pass.held.seat.me.0 work.items ends.items) }
+    requires pass { MayWork S.meaning running.now pass }
+    requires calls { own_calls pass ≡ 0 }
+    requires works { AreRight (meaning_of S.meaning running.now).layout (own_names pass)
+        work.items }
+    ensures ended { IfOk result (λ ends. HaveEnded S.meaning running.now (view_of pass) work.items
+        ends.items) }
     ensures refused { IfErr result (λ e. e.0 ≡ pass) }
 {
     let Ok(rooms) = rooms_for(alloc, work) else {

@@ -1,7 +1,8 @@
 ghost use Rattle.std.specs.Prelude.{◌≡◌, ℕ, ◌+◌, ◌-◌, ◌<◌, ◌≤◌, Some, None, length, replicate, IsSome};
 ghost use Rattle.std.specs.List.{AllByRecursion};
 ghost use Rattle.flit_model.specs.declared.calls.Outcome.TheVariants.{Stopped};
-ghost use Rattle.flit_table.specs.Calls.{IsHeld};
+ghost use Rattle.flit_table.specs.Passes.{BelongsTo, MayWork, view_of, own_name, own_names, own_calls};
+ghost use Rattle.flit_table.specs.Steps.{meaning_of};
 ghost use Rattle.flit_workers.specs.Works.{IsRightItem, IsWorked, calls_in};
 
 use crate::gates::Gate;
@@ -20,13 +21,14 @@ fn work_within<S: Structure, G: Gate>(
     outcomes: &mut [Outcome],
     gate: &G,
 )
-    requires pass { IsHeld S.meaning running.now.origin.structure.value running.now pass.old.held }
-    requires free { IsSome pass.old.held.hand }
-    requires right { AllByRecursion (IsRightItem (S.meaning.layout running.now.origin.structure.value)) items.now }
-    requires count { pass.old.held.calls + length items.now ≤ 4294967295 }
+    requires pass { MayWork S.meaning running.now pass.old }
+    requires right { AllByRecursion (IsRightItem (meaning_of S.meaning running.now).layout)
+        items.now }
+    requires count { own_calls pass.old + length items.now ≤ 4294967295 }
     requires stopped { outcomes.old ≡ replicate (length (calls_in items.now)) Stopped }
-    ensures pass { IsHeld S.meaning running.now.origin.structure.value running.now pass.new.held }
-    ensures worked { IsWorked items.now (Some stop) outcomes.new pass.old.held.name pass.old.held.calls pass.old.held.seat.me.0 pass.new.held.seat.me.0 }
+    ensures pass { BelongsTo S.meaning running.now pass.new }
+    ensures worked { IsWorked items.now (Some stop) outcomes.new (own_name pass.old)
+        (own_calls pass.old) (view_of pass.old) (view_of pass.new) }
 {
     let mut made = 0;
     let mut replied = 0;
@@ -55,13 +57,14 @@ fn work_all<S: Structure, G: Gate, R: Wait>(
     outcomes: &mut [Outcome],
     gate: &G,
 )
-    requires pass { IsHeld S.meaning running.now.origin.structure.value running.now pass.old.held }
-    requires free { IsSome pass.old.held.hand }
-    requires right { AllByRecursion (IsRightItem (S.meaning.layout running.now.origin.structure.value)) items.now }
-    requires count { pass.old.held.calls + length items.now ≤ 4294967295 }
+    requires pass { MayWork S.meaning running.now pass.old }
+    requires right { AllByRecursion (IsRightItem (meaning_of S.meaning running.now).layout)
+        items.now }
+    requires count { own_calls pass.old + length items.now ≤ 4294967295 }
     requires stopped { outcomes.old ≡ replicate (length (calls_in items.now)) Stopped }
-    ensures pass { IsHeld S.meaning running.now.origin.structure.value running.now pass.new.held }
-    ensures worked { IsWorked items.now None outcomes.new pass.old.held.name pass.old.held.calls pass.old.held.seat.me.0 pass.new.held.seat.me.0 }
+    ensures pass { BelongsTo S.meaning running.now pass.new }
+    ensures worked { IsWorked items.now None outcomes.new (own_name pass.old) (own_calls pass.old)
+        (view_of pass.old) (view_of pass.new) }
 {
     let mut replied = 0;
     for item in items {
@@ -81,13 +84,14 @@ pub(crate) fn work<S: Structure, G: Gate, R: Wait>(
     outcomes: &mut [Outcome],
     gate: &G,
 )
-    requires pass { IsHeld S.meaning running.now.origin.structure.value running.now pass.old.held }
-    requires free { IsSome pass.old.held.hand }
-    requires right { AllByRecursion (IsRightItem (S.meaning.layout running.now.origin.structure.value)) work.now.items.items }
-    requires count { pass.old.held.calls + length work.now.items.items ≤ 4294967295 }
+    requires pass { MayWork S.meaning running.now pass.old }
+    requires right { AllByRecursion (IsRightItem (meaning_of S.meaning running.now).layout)
+        work.now.items.items }
+    requires count { own_calls pass.old + length work.now.items.items ≤ 4294967295 }
     requires stopped { outcomes.old ≡ replicate (length (calls_in work.now.items.items)) Stopped }
-    ensures pass { IsHeld S.meaning running.now.origin.structure.value running.now pass.new.held }
-    ensures worked { IsWorked work.now.items.items work.now.stop outcomes.new pass.old.held.name pass.old.held.calls pass.old.held.seat.me.0 pass.new.held.seat.me.0 }
+    ensures pass { BelongsTo S.meaning running.now pass.new }
+    ensures worked { IsWorked work.now.items.items work.now.stop outcomes.new (own_name pass.old)
+        (own_calls pass.old) (view_of pass.old) (view_of pass.new) }
 {
     match work.stop {
         None => work_all(rt, running, pass, work.items.as_slice(), outcomes, gate),

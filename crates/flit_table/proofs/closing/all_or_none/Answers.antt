@@ -7,4 +7,5 @@ use Rattle.flit_table.proofs.closing.all_or_none.Goals as goal
 pub loop-word-preserved : goal.loop-word-preserved
 loop-word-preserved c =
     rw (c.in_ok-push.ensures.items, c.loop-word.invariant, c.image_word.ensures)
-    (sym (map-range_with_len_more (λ i. word_in (slots_items c.args.closed.now.words) c.args.count c.args.takes i) 0 c.loop-word.word c.loop-word.word (omega arith)))
+    (sym (map-range_with_len_more (λ i. word_in (slots_items c.args.closed.now.words) c.args.count c.args.takes i) 0 c.loop-word.word c.loop-word.word
+    (omega arith)))

@@ -9,4 +9,5 @@ returns c =
     let xs = slots_items c.args.closed.now.words in
     let w = c.args.word in
     c.kept_or_taken.ensures
-    ∙ (λ i. taken_word c.args.takes (sym (elem_found xs (w + 1) c.word-now.result c.word-now.ensures) i) (sym (elem_found xs (c.args.count + (w + 1)) c.word-shadow.result c.word-shadow.ensures) i))
+    ∙ (λ i. taken_word c.args.takes (sym (elem_found xs (w + 1) c.word-now.result c.word-now.ensures) i)
+    (sym (elem_found xs (c.args.count + (w + 1)) c.word-shadow.result c.word-shadow.ensures) i))

@@ -14,6 +14,9 @@ index_mut-requires c =
 
 pub loop-word-preserved : goal.loop-word-preserved
 loop-word-preserved c = elim c.if-word-count.branch [
-  | then-word-count w ↦ ap (λ v. v.items) w.image-is ∙ takes_one (word_in (slots_items c.args.closed.now.words) c.args.count) c.args.chosen.now c.loop-word.word-index 0 c.loop-word-test.true c.args.count c.loop-word.image.items w.image_word.result c.loop-word.invariant w.if-word-count.true w.image_word.ensures
-  | else-word-count w ↦ ap (λ v. v.items) w.image-is ∙ takes_none (word_in (slots_items c.args.closed.now.words) c.args.count) c.args.chosen.now c.loop-word.word-index 0 c.loop-word-test.true c.args.count c.loop-word.image.items c.loop-word.invariant w.if-word-count.false
+  | then-word-count w ↦ ap (λ v. v.items) w.image-is ∙ takes_one (word_in (slots_items c.args.closed.now.words) c.args.count) c.args.chosen.now
+      c.loop-word.word-index 0 c.loop-word-test.true c.args.count c.loop-word.image.items w.image_word.result c.loop-word.invariant w.if-word-count.true
+      w.image_word.ensures
+  | else-word-count w ↦ ap (λ v. v.items) w.image-is ∙ takes_none (word_in (slots_items c.args.closed.now.words) c.args.count) c.args.chosen.now
+      c.loop-word.word-index 0 c.loop-word-test.true c.args.count c.loop-word.image.items c.loop-word.invariant w.if-word-count.false
 ]

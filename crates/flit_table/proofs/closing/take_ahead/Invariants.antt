@@ -5,4 +5,5 @@ use Rattle.flit_table.specs.Closing.{word_in}
 use Rattle.flit_table.proofs.closing.take_ahead.Given as goal
 
 abbrev pub invariant-loop-word : goal.invariant-loop-word
-invariant-loop-word l = l.image.items ≡ map (λ i. word_in (slots_items l.closed.words) l.count (list_any (λ v. v == i) (take l.word-index l.chosen)) i) (range_with_len 0 l.count)
+invariant-loop-word l = l.image.items ≡ map (λ i. word_in (slots_items l.closed.words) l.count (list_any (λ v. v == i) (take l.word-index l.chosen)) i)
+    (range_with_len 0 l.count)

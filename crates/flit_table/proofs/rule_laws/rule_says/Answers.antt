@@ -4,16 +4,20 @@ use Rattle.flit_table.proofs.Saying.{seen_first, seen_legal, history_legal, hist
 use Rattle.flit_table.proofs.rule_laws.rule_says.Goals as goal
 
 pub returns-clause-crash : goal.returns-clause-crash
-returns-clause-crash g c = λ o m log views picks k. g.met.S.Structure.lawful.crash o.structure.value (moment_of g.S.Structure.meaning o m log (all_workers views)) picks k.holds
+returns-clause-crash g c = λ o m log views picks k. (g.met.S.Structure.lawful o.structure.value).crash (moment_of o m log (all_workers views)) picks k.holds
 
 pub returns-clause-names : goal.returns-clause-names
-returns-clause-names g c = λ o m log views k. g.met.S.Structure.lawful.distinct o.structure.value (moment_of g.S.Structure.meaning o m log (all_workers views)) k.holds
+returns-clause-names g c = λ o m log views k. ((g.met.S.Structure.lawful o.structure.value).named (moment_of o m log (all_workers views)) k.holds).different
 
 pub returns-clause-seen : goal.returns-clause-seen
-returns-clause-seen g c = λ o m log a b v. seen_first g.S.Structure.meaning g.met.S.Structure.lawful o m log a b v
+returns-clause-seen g c = λ o m log a b v. seen_first (g.S.Structure.meaning o.structure.value) (g.met.S.Structure.lawful o.structure.value) o m log a b v
 
 pub returns-clause-legal : goal.returns-clause-legal
-returns-clause-legal g c = λ o m log a b v k. (seen_legal g.S.Structure.meaning g.met.S.Structure.lawful o m log a b v k, history_legal g.S.Structure.meaning g.met.S.Structure.lawful o m log a b v k)
+returns-clause-legal g c = λ o m log a b v k. (
+  seen_legal (g.S.Structure.meaning o.structure.value) (g.met.S.Structure.lawful o.structure.value) o m log a b v
+      k,
+  history_legal (g.S.Structure.meaning o.structure.value) (g.met.S.Structure.lawful o.structure.value) o m log a b v k,
+)
 
 pub returns-clause-map : goal.returns-clause-map
-returns-clause-map g c = λ o m log a b v. history_map g.S.Structure.meaning g.met.S.Structure.lawful o m log a b v
+returns-clause-map g c = λ o m log a b v. history_map (g.S.Structure.meaning o.structure.value) (g.met.S.Structure.lawful o.structure.value) o m log a b v

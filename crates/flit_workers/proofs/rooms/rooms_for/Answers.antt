@@ -18,5 +18,9 @@ loop-work-preserved c =
       append_assoc at.yielded (x ∷ []) _ ∙ rw (← steps) at.invariant.0,
       (let was = at.invariant.1 in let gone = c.in-Some.ensures.steps.1 in let short = ap length steps in omega arith),
       ap (map (λ (r : Room). r.work)) c.in_ok-push.ensures.items ∙ map-append (λ (r : Room). r.work) at.rooms.items _ ∙ ap (λ l. l ++ x ∷ []) at.invariant.2,
-      subst (AllByRecursion IsRoom) (sym c.in_ok-push.ensures.items) (all-append IsRoom at.rooms.items (_ ∷ []) at.invariant.3 (c.in_ok-outcomes.ensures ∙ ap (λ (l : List Item). replicate (length (calls_in l)) Stopped) c.deref.ensures.value, tt)),
+      subst (AllByRecursion IsRoom) (sym c.in_ok-push.ensures.items) (all-append IsRoom at.rooms.items (_ ∷ []) at.invariant.3 (
+        c.in_ok-outcomes.ensures
+            ∙ ap (λ (l : List Item). replicate (length (calls_in l)) Stopped) c.deref.ensures.value,
+        tt,
+      )),
     )

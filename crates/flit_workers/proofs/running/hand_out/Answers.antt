@@ -12,8 +12,9 @@ loop-room-init g c =
       refl,
       search rules,
       (let n = ap length came in let p = c.requires.len in let q = c.requires.capacity in omega arith),
-      subst (λ es. Shares g.S.Structure.meaning c.args.running.now c.args.pass.held [] es c.args.pass.held c.names-left.result) (sym c.requires.ends)
-          (shares_none g.S.Structure.meaning c.args.running.now c.args.pass.held c.names-left.result c.requires.pass c.requires.free c.requires.calls c.names-left.ensures),
+      subst (λ es. Shares g.S.Structure.meaning c.args.running.now c.args.pass [] es c.args.pass c.names-left.result) (sym c.requires.ends)
+          (shares_none g.S.Structure.meaning c.args.running.now c.args.pass c.names-left.result c.requires.pass.belongs c.requires.pass.free c.requires.calls
+          c.names-left.ensures),
     )
 
 pub loop-room-preserved : goal.loop-room-preserved
@@ -29,9 +30,11 @@ loop-room-preserved g c =
     let e = c.split-rest.ensures in (
       append_assoc at.yielded (x ∷ []) _ ∙ rw (← steps) i.0,
       (let was = i.1 in let gone = c.in-Some.ensures.steps.1 in let short = ap length steps in omega arith),
-      (let was = i.2 in let short = ap length steps in let p = c.push_reserved-in-loop-room.ensures.len in let q = c.push_reserved-in-loop-room.ensures.capacity in omega arith),
-      shares_more g.S.Structure.meaning c.args.running.now c.args.pass.held at.yielded at.ends.items c.push_reserved-in-loop-room.new.self.items x at.pass.held c.split-rest.result.held c.split-rest.new.pass at.left i.3 room c.if-left-le1.false
-          e.old e.keeps.0 e.keeps.1 e.keeps.3 e.keeps.4 e.new e.gives.0 e.gives.1 e.gives.2 e.gives.3 e.gives.4 c.push_reserved-in-loop-room.ensures.items,
+      (let was = i.2 in let short = ap length steps in let p = c.push_reserved-in-loop-room.ensures.len in let q =
+          c.push_reserved-in-loop-room.ensures.capacity in omega arith),
+      shares_more g.S.Structure.meaning c.args.running.now c.args.pass at.yielded at.ends.items c.push_reserved-in-loop-room.new.self.items x at.pass
+          c.split-rest.result c.split-rest.new.pass at.left i.3 room c.if-left-le1.false
+          e.old e.keeps e.new e.gives c.push_reserved-in-loop-room.ensures.items,
     )
 
 pub returns-then-left-le1 : goal.returns-then-left-le1
@@ -46,10 +49,12 @@ returns-then-left-le1 g c =
     let all : at.yielded ++ x ∷ rest ≡ c.args.rooms.items = ap (λ l. at.yielded ++ l) (sym steps) ∙ i.0 ∙ came in
     let room : IsRoom x = room_next IsRoom at.yielded x rest c.args.rooms.items all c.requires.rooms in
     let long : length at.yielded + length (x ∷ rest) ≡ length c.args.rooms.items = sym (length-append at.yielded (x ∷ rest)) ∙ ap length all in
-    let gone : rest ≡ [] = none_left rest (let p = c.requires.names in let q = c.requires.pass.names in let r = i.3.count in let s = c.if-left-le1.true in let t = i.3.names in let u = i.3.held.names in let w = i.3.held.belongs.names in omega (arith, long)) in
+    let gone : rest ≡ [] = none_left rest (let p = c.requires.names in let q = c.requires.pass.belongs.names in let r = i.3.count in let s =
+    c.if-left-le1.true in let t = i.3.names in let u = i.3.held.names in let w = i.3.held.belongs.names in omega (arith, long)) in
     let whole : at.yielded ++ x ∷ [] ≡ c.args.rooms.items = ap (λ l. at.yielded ++ x ∷ l) (sym gone) ∙ all in
     subst (λ l. AreReady M c.args.running.now c.args.pass.held.seat.me.0 (map (λ r. r.work) l) c.push_reserved.new.self.items) whole
-    (shares_last M c.args.running.now c.args.pass.held at.yielded at.ends.items c.push_reserved.new.self.items x at.pass at.left i.3 room c.if-left-le1.true c.push_reserved.ensures.items)
+    (shares_last M c.args.running.now c.args.pass at.yielded at.ends.items c.push_reserved.new.self.items x at.pass at.left i.3 room c.if-left-le1.true
+    c.push_reserved.ensures.items)
 
 pub returns : goal.returns
 returns g c =

@@ -9,4 +9,4 @@ invariant-loop-room g l =
     (l.yielded ++ into_iter_items l.room-iterator ≡ into_iter_items l.initial.room-iterator)
     × (into_iter_len l.room-iterator ≡ length (into_iter_items l.room-iterator))
     × (vec_len l.ends + length (into_iter_items l.room-iterator) ≤ vec_capacity l.ends)
-    × Shares g.S.Structure.meaning l.running l.fn.pass.held l.yielded l.ends.items l.pass.held l.left
+    × Shares g.S.Structure.meaning l.running l.fn.pass l.yielded l.ends.items l.pass l.left

@@ -1,34 +1,27 @@
-use Rattle.std.proofs.Common.{◌≡◌, ◌+◌, IsSome, refl, sym, ap, ◌∙◌, subst, le_refl}
+use Rattle.std.proofs.Common.{◌+◌, ap, le_refl}
+use Rattle.flit_table.specs.Passes.{is_stopped}
 use Rattle.flit_table.proofs.PassLaws.{held_ended}
 use Rattle.flit_table.proofs.running.Running.answer.Goals as goal
 
-pub finish-requires-in-Some-advance : goal.finish-requires-in-Some-advance
-finish-requires-in-Some-advance g c =
-    let M = g.S.Structure.meaning in
-    let s = c.args.self.now.origin.structure.value in
-    let at : c.self.inside.structure ≡ s = sym c.self.invariant.structure ∙ ap (λ h. h.origin.structure.value) c.self.view_is in
+pub returns-in-Some-go_on-clause-pass : goal.returns-in-Some-go_on-clause-pass
+returns-in-Some-go_on-clause-pass g c =
+    let M = g.S.Structure.meaning c.args.self.now.origin.structure.value in
     let i = c.loop.invariant in
-    let e = c.in-Some-advance.ensures.some c.args.pass.now.held.seat.me.0 i.6.0 i.6.1 in
-    subst IsSome (ap (λ z. M.replied z c.advance.new.op) (sym at)) (subst IsSome (sym e.replied) refl)
+    let k = c.in-Some-go_on.ensures c.args.call c.args.pass.now.held i.0 i.1 in
+    held_ended M c.args.self.now c.args.pass.now.held c.go_on.new.held c.requires.works.belongs c.requires.works.free c.go_on.new.start c.args.call
+    (i.0 + c.in-Some-go_on.field-0-1) c.in-Some-go_on.reply k.1
 
-pub returns-in-Some-advance-clause-pass : goal.returns-in-Some-advance-clause-pass
-returns-in-Some-advance-clause-pass g c =
-    let M = g.S.Structure.meaning in
-    let o = c.args.self.now.origin in
-    let s = o.structure.value in
+pub returns-in-Some-go_on-clause-calls : goal.returns-in-Some-go_on-clause-calls
+returns-in-Some-go_on-clause-calls g c =
     let i = c.loop.invariant in
-    let at : c.self.inside.structure ≡ s = sym c.self.invariant.structure ∙ ap (λ h. h.origin.structure.value) c.self.view_is in
-    let e = c.in-Some-advance.ensures.some c.args.pass.now.held.seat.me.0 i.6.0 i.6.1 in
-    let hand : c.finish-in-Some-advance.result ≡ M.finished s c.advance.new.op = c.finish-in-Some-advance.ensures ∙ ap (λ z. M.finished z c.advance.new.op) at in
-    held_ended M s c.args.self.now c.args.pass.now.held o refl c.requires.pass c.requires.free c.advance.new.seat _ _ _ c.finish-in-Some-advance.result _ c.args.call c.advance.new.op c.in-Some-advance.reply (i.6.0 + 1) _
-    c.advance.ensures.pass i.1 i.2 i.3 hand i.5 e
+    (c.in-Some-go_on.ensures c.args.call c.args.pass.now.held i.0 i.1).1.calls
 
-pub returns-in-Some-advance-clause-answered : goal.returns-in-Some-advance-clause-answered
-returns-in-Some-advance-clause-answered g c =
+pub returns-in-Some-go_on-clause-answered : goal.returns-in-Some-go_on-clause-answered
+returns-in-Some-go_on-clause-answered g c =
     let i = c.loop.invariant in
-    (i.6.0 + 1, (le_refl (i.6.0 + 1), refl, (c.advance.new.op, c.in-Some-advance.ensures.some c.args.pass.now.held.seat.me.0 i.6.0 i.6.1)))
+    let k = c.in-Some-go_on.ensures c.args.call c.args.pass.now.held i.0 i.1 in
+    let made = i.0 + c.in-Some-go_on.field-0-1 in
+    (made, (le_refl made, ap is_stopped k.1.is, (k.1.op, k.1.at)))
 
 pub loop-preserved : goal.loop-preserved
-loop-preserved g c =
-    let i = c.loop.invariant in
-    (c.advance.ensures.pass, i.1, i.2, i.3, i.4, i.5, (i.6.0 + 1, c.in_default-advance.ensures.none c.args.pass.now.held.seat.me.0 i.6.0 i.6.1))
+loop-preserved g c = let i = c.loop.invariant in (i.0 + _, c.in_default.ensures c.args.call c.args.pass.now.held i.0 i.1)

@@ -1,44 +1,64 @@
-use Rattle.std.proofs.Common.{rules, ◌≡◌, ◌+◌, IsSome, refl, sym, ap, ◌∙◌, subst}
-use Rattle.flit_structure.specs.Meanings.{hand_of}
-use Rattle.flit_table.specs.declared.views.Start.TheVariants.{Begin}
+use Rattle.std.proofs.Common.{◌+◌, ℕ, refl, sym, ap, ◌∙◌, subst, zero-add}
+use Rattle.flit_structure.specs.Meanings.{tally}
+use Rattle.flit_table.specs.Calls.{Ends, Runs}
 use Rattle.flit_table.specs.Moves.{entering}
-use Rattle.flit_table.specs.Calls.{Runs}
-use Rattle.flit_table.proofs.CallSteps.{begins_runs}
-use Rattle.flit_table.proofs.PassLaws.{may_begin, held_ended}
+use Rattle.flit_table.specs.Passes.{is_stopped, waits_in, IsHeld}
+use Rattle.flit_table.proofs.PassLaws.{held_ended, held_stopped}
 use Rattle.flit_table.proofs.running.Running.answer_within.Goals as goal
 
-pub returns-then-steps-eq0-clause-answered : goal.returns-then-steps-eq0-clause-answered
-returns-then-steps-eq0-clause-answered g c =
-    let M = g.S.Structure.meaning in
-    let o = c.args.self.now.origin in
-    let s = o.structure.value in
+pub stop-requires : goal.stop-requires
+stop-requires g c =
+    let k = c.in_default.ensures c.args.call c.args.pass.now.held 0 c.begin-start.ensures in
+    (k.op, k.is)
+
+pub returns-in_default-clause-pass : goal.returns-in_default-clause-pass
+returns-in_default-clause-pass g c =
+    let M = g.S.Structure.meaning c.args.self.now.origin.structure.value in
+    let k = c.in_default.ensures c.args.call c.args.pass.now.held 0 c.begin-start.ensures in
+    let stopped = c.stop.ensures k.op k.is in
+    subst (IsHeld M c.args.self.now) (sym stopped)
+    (held_stopped M c.args.self.now c.args.pass.now.held c.go_on.new.held c.requires.works.belongs c.requires.works.free c.go_on.new.start c.args.call
+    (0 + c.args.steps) _ (tally M k.op) k refl refl)
+
+pub returns-in_default-clause-calls : goal.returns-in_default-clause-calls
+returns-in_default-clause-calls g c =
+    let k = c.in_default.ensures c.args.call c.args.pass.now.held 0 c.begin-start.ensures in
+    ap (λ h. h.calls) (c.stop.ensures k.op k.is) ∙ k.calls
+
+pub returns-in_default-clause-answered : goal.returns-in_default-clause-answered
+returns-in_default-clause-answered g c =
+    let M = g.S.Structure.meaning c.args.self.now.origin.structure.value in
     let v = c.args.pass.now.held.seat.me.0 in
-    let none : c.args.steps ≡ 0 = search rules in
-    let r = begins_runs M g.met.S.Structure.lawful o c.args.call v (may_begin M s c.args.self.now c.args.pass.now.held c.args.call c.requires.pass c.requires.free c.requires.served c.requires.count) in
-    let op = M.begun s (hand_of M s v.post.worker) c.args.call in
-    (search rules, (op, subst (λ n. Runs M o c.args.call v (entering M s (Begin c.args.call) v) op n) (sym none) r))
+    let k = c.in_default.ensures c.args.call c.args.pass.now.held 0 c.begin-start.ensures in
+    let stopped = c.stop.ensures k.op k.is in (
+      ap (λ h. is_stopped h.rest) stopped,
+      (
+        k.op,
+        subst (λ (n : ℕ). Runs M c.args.self.now.origin c.args.call v (entering M (waits_in c.stop.new.held.rest) c.stop.new.held.seat.me.0) k.op n)
+            (zero-add c.args.steps)
+            (subst (λ h. Runs M c.args.self.now.origin c.args.call v (entering M (waits_in h.rest) h.seat.me.0) k.op (0 + c.args.steps)) (sym stopped) k.at.1),
+      ),
+    )
 
-pub finish-requires-in-Some-advance : goal.finish-requires-in-Some-advance
-finish-requires-in-Some-advance g c =
-    let M = g.S.Structure.meaning in
-    let s = c.args.self.now.origin.structure.value in
-    let at : c.self.inside.structure ≡ s = sym c.self.invariant.structure ∙ ap (λ h. h.origin.structure.value) c.self.view_is in
-    let e = c.in-Some-advance.ensures.some c.args.pass.now.held.seat.me.0 c.loop-made.made c.loop-made.invariant.6 in
-    subst IsSome (ap (λ z. M.replied z c.advance.new.op) (sym at)) (subst IsSome (sym e.replied) refl)
+pub returns-clause-pass : goal.returns-clause-pass
+returns-clause-pass g c =
+    let M = g.S.Structure.meaning c.args.self.now.origin.structure.value in
+    let k = c.in-Some.ensures c.args.call c.args.pass.now.held 0 c.begin-start.ensures in
+    held_ended M c.args.self.now c.args.pass.now.held c.go_on.new.held c.requires.works.belongs c.requires.works.free c.go_on.new.start c.args.call
+    (0 + c.in-Some.made) c.in-Some.reply k.1
 
-pub returns-in-Some-advance-clause-pass : goal.returns-in-Some-advance-clause-pass
-returns-in-Some-advance-clause-pass g c =
-    let M = g.S.Structure.meaning in
-    let o = c.args.self.now.origin in
-    let s = o.structure.value in
-    let i = c.loop-made.invariant in
-    let at : c.self.inside.structure ≡ s = sym c.self.invariant.structure ∙ ap (λ h. h.origin.structure.value) c.self.view_is in
-    let e = c.in-Some-advance.ensures.some c.args.pass.now.held.seat.me.0 c.loop-made.made i.6 in
-    let hand : c.finish-in-Some-advance.result ≡ M.finished s c.advance.new.op = c.finish-in-Some-advance.ensures ∙ ap (λ z. M.finished z c.advance.new.op) at in
-    held_ended M s c.args.self.now c.args.pass.now.held o refl c.requires.pass c.requires.free c.advance.new.seat _ _ _ c.finish-in-Some-advance.result _ c.args.call c.advance.new.op c.in-Some-advance.reply (c.loop-made.made + 1) _
-    c.advance.ensures.pass i.1 i.2 i.3 hand i.5 e
+pub returns-clause-calls : goal.returns-clause-calls
+returns-clause-calls g c = (c.in-Some.ensures c.args.call c.args.pass.now.held 0 c.begin-start.ensures).1.calls
 
-pub returns-in-Some-advance-clause-answered : goal.returns-in-Some-advance-clause-answered
-returns-in-Some-advance-clause-answered g c =
-    let e = c.in-Some-advance.ensures.some c.args.pass.now.held.seat.me.0 c.loop-made.made c.loop-made.invariant.6 in
-    (search rules, refl, (c.advance.new.op, e))
+pub returns-clause-answered : goal.returns-clause-answered
+returns-clause-answered g c =
+    let M = g.S.Structure.meaning c.args.self.now.origin.structure.value in
+    let k = c.in-Some.ensures c.args.call c.args.pass.now.held 0 c.begin-start.ensures in (
+      k.0,
+      ap is_stopped k.1.is,
+      (
+        k.1.op,
+        subst (λ (n : ℕ). Ends M c.args.self.now.origin c.args.call c.args.pass.now.held.seat.me.0 c.go_on.new.held.seat.me.0 k.1.op c.in-Some.reply n)
+            (zero-add c.in-Some.made) k.1.at,
+      ),
+    )

@@ -16,9 +16,11 @@ returns-clause-closes g c = λ home is.
     let xs = slots_items c.close_with-closed.result.words in
     let v = c.args.pass.held.seat.me.0 in
     let final = c.close_with-closed.ensures.values.2 in
-    let t = closes M g.met.S.Structure.lawful key final.0 _ v picks xs final.1.0 final.1.1 final.2 in
-    let count : c.words-count.result ≡ words_of (M.layout key.structure.value) = c.words-count.ensures ∙ ap words_of (c.layout.ensures ∙ ap M.layout (sym c.inside.invariant.structure)) in
-    let image : c.in_ok-words.field-0.items ≡ image_in picks (words_of (M.layout key.structure.value)) xs = c.in_ok-words.ensures ∙ ap (λ n. image_in picks n xs) count in
+    let t = closes (M key.structure.value) (g.met.S.Structure.lawful key.structure.value) key final.0 _ v picks xs final.1.0 final.1.1 final.2 in
+    let count : c.words-count.result ≡ words_of (M key.structure.value).layout = c.words-count.ensures
+    ∙ ap words_of (c.layout.ensures ∙ ap (λ z. (M z).layout) (sym c.inside.invariant.structure)) in
+    let image : c.in_ok-words.field-0.items ≡ image_in picks (words_of (M key.structure.value).layout) xs = c.in_ok-words.ensures
+    ∙ ap (λ n. image_in picks n xs) count in
     let found : c.args.running.now ≡ Some c.in-Some.inside = search rules in
     let same : key ≡ home.origin = ap (λ h. h.origin) c.inside.view_is ∙ ap (λ h. h.origin) (same_some c.in-Some.inside home (sym found ∙ is)) in
-    subst (λ o. Closes M o v picks c.in_ok-words.field-0.items) same (subst (Closes M key v picks) (sym image) t)
+    subst (λ o. Closes (M o.structure.value) o v picks c.in_ok-words.field-0.items) same (subst (Closes (M key.structure.value) key v picks) (sym image) t)

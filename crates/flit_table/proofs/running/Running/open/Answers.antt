@@ -1,10 +1,19 @@
 use Rattle.std.proofs.Common.{rules, ◌≡◌, List, ℕ, [], ◌∷◌, ◌++◌, replicate}
-use Rattle.flit_table.proofs.OpenGoals.{open_asked}
+use Rattle.flit_table.proofs.OpenGoals.{open_asked, table_of}
 use Rattle.flit_table.proofs.running.Running.open.Goals as goal
 
 pub of_words-requires : goal.of_words-requires
 of_words-requires g c =
     let M = g.S.Structure.meaning in
     let words : List ℕ = c.args.start.now.image.words.items in
-    let laid : c.as_slice-2.result.now ≡ 0 ∷ (words ++ (words ++ (replicate (M.layout c.args.structure).slots 0 ++ 0 ∷ []))) = search rules in
-    open_asked M g.met.S.Structure.lawful (record { structure = c.of.result; start = c.of-2.result }) c.args.structure c.args.start.now c.of.ensures c.of-2.ensures c.requires c.as_slice-2.result.now laid
+    let laid : c.as_slice-2.result.now ≡ 0 ∷ (words ++ (words ++ (replicate (M c.args.structure).layout.slots 0 ++ 0 ∷ []))) = search rules in
+    open_asked M g.met.S.Structure.lawful (record { structure = c.of.result; start = c.of-2.result }) c.args.structure c.args.start.now c.of.ensures
+    c.of-2.ensures c.requires c.as_slice-2.result.now laid
+
+pub invariant_of-result : goal.invariant_of-result
+invariant_of-result g c =
+    let M = g.S.Structure.meaning in
+    let words : List ℕ = c.args.start.now.image.words.items in
+    let laid : c.as_slice-2.result.now ≡ 0 ∷ (words ++ (words ++ (replicate (M c.args.structure).layout.slots 0 ++ 0 ∷ []))) = search rules in
+    table_of M g.met.S.Structure.lawful c.args.structure c.args.start.now c.requires c.as_slice-2.result.now laid c.in_ok-table.table.shared.key
+    c.in_ok-table.table.shared.table_id (search rules) (search rules) (search rules)
