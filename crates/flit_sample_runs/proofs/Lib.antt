@@ -1,3 +1,4 @@
 pub mod OpenedRuns
 pub mod ItemCounts
 pub mod OrderLaws
+pub mod Rights

@@ -6,10 +6,10 @@ use Rattle.flit_words.specs.declared.layouts.Layout.{Layout}
 use Rattle.flit_words.specs.Layouts.{words_of, least_buckets, most_buckets}
 use Rattle.flit_model.specs.Lists.{link_in}
 use Rattle.flit_place.specs.Tags.{Place, IsSlot, IsPlacement}
-use Rattle.flit_image.specs.declared.images.Image.{Image}
-use Rattle.flit_image.specs.Images.{layout_of}
-use Rattle.flit_recover.specs.declared.found.Recovered.{Recovered}
-use Rattle.flit_recover.specs.Damages.{IsRecovery}
+use Rattle.flit_model.specs.declared.found.Image.{Image}
+use Rattle.flit_model.specs.Recovery.{layout_of}
+use Rattle.flit_model.specs.declared.found.Recovered.{Recovered}
+use Rattle.flit_model.specs.Recovery.{IsRecovery}
 use Rattle.flit_structure.specs.Lawful.{IsOpening}
 use Rattle.flit_one_key.specs.Steps.{IsSmall, key_word, links_none}
 use Rattle.flit_one_key.specs.OneKey.{Opens}
@@ -32,7 +32,8 @@ one_bucket k n is low high = exact (subst (λ x. least_buckets x ≤ n) is low) 
     exact : 1 ≤ n → n ≤ 1 → n ≡ 1
     exact a b = omega (arith, a, b)
 
-pub small_recovery : (i : Image) (l : Layout) (image keys vals free : List ℕ) → i.kind ≡ List_kind → i.buckets ≡ 1 → i.rows ≡ 1 → i.values ≡ true → IsSmall l → l.values ≡ true →
+pub small_recovery : (i : Image) (l : Layout) (image keys vals free : List ℕ) → i.kind ≡ List_kind → i.buckets ≡ 1 → i.rows ≡ 1 → i.values ≡ true → IsSmall l →
+    l.values ≡ true →
     IsRecovery (layout_of i) image keys vals free → IsRecovery l image keys vals free
 small_recovery i l image keys vals free kind buckets rows values small valued h = same_shape_recovery (layout_of i) l image keys vals free (record {
   kind = kind ∙ sym small.list;

@@ -10,5 +10,5 @@ pub record IsSampleOf {P : Type 0} (s : Sample P) (l : Layout) (place_at : P) (r
   pub place : s.place ≡ place_at
   pub pool : s.pool ≡ rows
 
-abbrev pub counts_of : {S Op : Type 0} → Run S Op → List ℕ
+abbrev pub counts_of : {Op : Type 0} → Run Op → List ℕ
 counts_of r = map (λ p. length p.items) r.parts

@@ -1,10 +1,18 @@
-//! The sample over scheduled runs: how the author of a structure opens it and drives it.
+//! The sample under scheduled runs and on words that threads share: how the author of a structure opens it and drives it.
 #![tactic(auto)]
 
 mod opening;
 mod ordering;
 #[cfg(test)]
 mod tests;
+#[cfg(test)]
+mod word_tests;
+mod words;
+#[cfg(test)]
+mod worker_tests;
+#[cfg(test)]
+mod working;
 
 pub use opening::open_sample;
 pub use ordering::run_in_order;
+pub use words::open_words;

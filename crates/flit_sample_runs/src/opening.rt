@@ -2,9 +2,9 @@ ghost use Rattle.std.specs.Prelude.{◌≡◌, ℕ, ◌+◌, ◌<◌, false, IfO
 ghost use Rattle.flit_words.specs.Layouts.{words_of};
 ghost use Rattle.flit_model.specs.Lists.{link_in};
 ghost use Rattle.flit_place.specs.Tags.{IsSlot};
-ghost use Rattle.flit_recover.specs.Damages.{IsRecovery};
+ghost use Rattle.flit_model.specs.Recovery.{IsRecovery};
 ghost use Rattle.flit_one_key.specs.Steps.{IsSmall, key_word, links_none};
-ghost use Rattle.flit_sample.specs.Sampling.{sample};
+ghost use Rattle.flit_one_key.specs.OneKey.{one_key};
 ghost use Rattle.flit_sched.specs.Openings.{AreRight, opened_run};
 ghost use Rattle.flit_sample_runs.specs.Opened.{IsSampleOf};
 
@@ -26,11 +26,17 @@ pub fn open_sample<P: Placement + Drop>(
     work: Vec<Work>,
 ) -> Result<Sched<Sample<P>>, NoMemory>
     requires small { IsSmall layout }
-    requires found { IsRecovery layout start.now.image.words.items start.now.keys.items start.now.values.items start.now.free.items }
-    requires unmarked { links_none (slice_index start.now.image.words.items 0) ≡ false → (link_in start.now.image.words.items (key_word layout + 1)).mark ≡ false }
-    requires slots { (word : ℕ) → word < words_of layout → IsSlot (P.place place).counted layout.slots ((P.place place).slot word) }
+    requires found { IsRecovery layout start.now.image.words.items start.now.keys.items
+        start.now.values.items start.now.free.items }
+    requires unmarked { links_none (slice_index start.now.image.words.items 0) ≡ false →
+        (link_in start.now.image.words.items (key_word layout + 1)).mark ≡ false }
+    requires slots { (word : ℕ) → word < words_of layout →
+        IsSlot (P.place place).counted layout.slots ((P.place place).slot word) }
     requires right { AreRight layout work.items }
-    ensures { IfOk result (λ r. (s : Sample P) × IsSampleOf s layout place start.now.free.items × (r ≡ opened_run (sample P.place) s start.now work.items)) }
+    ensures structure { IfOk result (λ r. IsSampleOf r.structure layout place
+        start.now.free.items) }
+    ensures run { IfOk result (λ r. r.run ≡ opened_run
+        (one_key layout (P.place place) start.now.free.items) start.now work.items) }
 {
     recovered_opens();
     let pool = Pool::new(alloc, &start.free)?;

@@ -2,8 +2,8 @@ ghost use Rattle.std.specs.Prelude.{◌≡◌, ◌⊎◌, ◌≤◌, ◌<◌, []
 ghost use Rattle.std.specs.List.{AllByRecursion};
 ghost use Rattle.flit_words.specs.declared.layouts.Layout.{Layout as A_layout};
 ghost use Rattle.flit_words.specs.Layouts.{words_of};
-ghost use Rattle.flit_image.specs.Images.{IsWhole, layout_of};
-ghost use Rattle.flit_recover.specs.Damages.{IsRecovery};
+ghost use Rattle.flit_model.specs.Recovery.{IsWhole, layout_of};
+ghost use Rattle.flit_model.specs.Recovery.{IsRecovery};
 ghost use Rattle.flit_one_key.specs.Steps.{IsSmall};
 ghost use Rattle.flit_structure.specs.Meanings.{key_of, value_put};
 ghost use Rattle.flit_sched.specs.Openings.{IsRightItem};
@@ -37,7 +37,7 @@ pub struct Driven<P: Placement + Drop> {
     run: Sched<Sample<P>>,
     pub first: u32,
     pub second: u32,
-    ghost counts: { counts_of run ≡ first ∷ second ∷ [] },
+    ghost counts: { counts_of run.run ≡ first ∷ second ∷ [] },
 }
 
 /// A layout of one row with values, for two workers.
@@ -131,7 +131,8 @@ pub fn reopen<P: Placement + Drop>(
     requires small { IsSmall layout }
     requires workers { layout.workers ≡ 2 }
     requires slots { layout.slots ≡ P.slots_for place (words_of layout) }
-    requires found { IsRecovery layout start.now.image.words.items start.now.keys.items start.now.values.items start.now.free.items }
+    requires found { IsRecovery layout start.now.image.words.items start.now.keys.items
+        start.now.values.items start.now.free.items }
 {
     let first = work_of(rt, alloc, &layout, scripts.first, scripts.stop)?;
     let second = work_of(rt, alloc, &layout, scripts.second, None)?;
@@ -178,7 +179,8 @@ fn is_small(rt: &impl Abort, image: &Image)
 /// What recovery finds in an image that has no damage.
 fn recovered(alloc: Global, image: &Image) -> Result<Recovered, Fail>
     requires { IsWhole image.now }
-    ensures { IfOk result (λ r. IsRecovery (layout_of image.now) r.image.words.items r.keys.items r.values.items r.free.items) }
+    ensures { IfOk result (λ r. IsRecovery (layout_of image.now) r.image.words.items r.keys.items
+        r.values.items r.free.items) }
 {
     match recover(alloc, image) {
         Ok(found) => Ok(found),
@@ -198,7 +200,8 @@ impl<P: Placement + Drop> Driven<P> {
     }
 
     fn has_item(&self, rt: &impl Abort, worker: u32, item: u32)
-        ensures { ((worker ≡ 1) × (item < self.now.first)) ⊎ ((worker ≡ 2) × (item < self.now.second)) }
+        ensures { ((worker ≡ 1) × (item < self.now.first))
+            ⊎ ((worker ≡ 2) × (item < self.now.second)) }
     {
         if worker == 1 {
             assert!(rt; item < self.first);
@@ -229,7 +232,8 @@ impl<P: Placement + Drop> Driven<P> {
 
     /// What a crash leaves that takes these values ahead.
     pub fn crash(&self, rt: &impl Abort, alloc: Global, ahead: &Ahead) -> Result<Recovered, Fail>
-        ensures { IfOk result (λ r. (l : A_layout) → IsSmall l → l.values ≡ true → IsRecovery l r.image.words.items r.keys.items r.values.items r.free.items) }
+        ensures { IfOk result (λ r. (l : A_layout) → IsSmall l → l.values ≡ true →
+            IsRecovery l r.image.words.items r.keys.items r.values.items r.free.items) }
     {
         let image = self.run.image(alloc, ahead)?;
         is_small(rt, &image);

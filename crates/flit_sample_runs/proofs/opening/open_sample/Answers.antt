@@ -1,16 +1,36 @@
-use Rattle.std.proofs.Common.{◌≡◌, ◌∙◌, ap}
+use Rattle.std.proofs.Common.{◌≡◌, ◌∙◌, ap, sym, subst}
+use Rattle.flit_one_key.specs.OneKey.{one_key}
+use Rattle.flit_sched.specs.Openings.{opened_run}
+use Rattle.flit_sample_runs.specs.Opened.{IsSampleOf}
 use Rattle.flit_sample_runs.proofs.OpenedRuns.{sample_opens, weaker_if_ok}
 use Rattle.flit_sample_runs.proofs.opening.open_sample.Goals as goal
 
 pub open-requires-clause-opens : goal.open-requires-clause-opens
 open-requires-clause-opens g c =
-    sample_opens c.args.layout (g.P.Placement.place c.args.place) c.args.start.now (c.recovered_opens.ensures.opening c.args.layout c.args.start.now c.requires.found) c.requires.unmarked c.requires.slots c.new-2.result.layout (g.P.Placement.place c.new-2.result.place) c.new-2.result.pool c.new-2.ensures.layout
+    sample_opens c.args.layout (g.P.Placement.place c.args.place) c.args.start.now
+    (c.recovered_opens.ensures.opening c.args.layout c.args.start.now c.requires.found) c.requires.unmarked c.requires.slots c.new-2.result.layout
+    (g.P.Placement.place c.new-2.result.place) c.new-2.result.pool c.new-2.ensures.layout
     (ap g.P.Placement.place c.new-2.ensures.place) (c.new-2.ensures.pool ∙ c.in_ok-pool.ensures ∙ c.deref.ensures.value)
 
 pub open-requires-clause-found : goal.open-requires-clause-found
 open-requires-clause-found g c = c.recovered_opens.ensures.book c.args.layout c.args.start.now c.requires.found
 
-pub returns : goal.returns
-returns g c =
+pub returns-clause-structure : goal.returns-clause-structure
+returns-clause-structure g c =
     let pool : c.new-2.result.pool ≡ c.args.start.now.free.items = c.new-2.ensures.pool ∙ c.in_ok-pool.ensures ∙ c.deref.ensures.value in
-    weaker_if_ok c.open.result _ _ (λ r is. (c.new-2.result, record { layout = c.new-2.ensures.layout; place = c.new-2.ensures.place; pool = pool }, is)) c.open.ensures
+    weaker_if_ok c.open.result _ _
+    (λ r is. subst (λ s. IsSampleOf s c.args.layout c.args.place c.args.start.now.free.items) (sym is)
+    (record { layout = c.new-2.ensures.layout; place = c.new-2.ensures.place; pool = pool })) c.open.ensures.structure
+
+pub returns-clause-run : goal.returns-clause-run
+returns-clause-run g c =
+    let place_of = g.P.Placement.place in
+    let start = c.args.start.now in
+    let works = c.args.work.items in
+    let s = c.new-2.result in
+    let pool : s.pool ≡ start.free.items = c.new-2.ensures.pool ∙ c.in_ok-pool.ensures ∙ c.deref.ensures.value in
+    weaker_if_ok c.open.result _ _
+    (λ r is. is
+    ∙ ap (λ l. opened_run (one_key l (place_of s.place) s.pool) start works) c.new-2.ensures.layout
+    ∙ ap (λ q. opened_run (one_key c.args.layout (place_of q) s.pool) start works) c.new-2.ensures.place
+    ∙ ap (λ f. opened_run (one_key c.args.layout (place_of c.args.place) f) start works) pool) c.open.ensures.run
