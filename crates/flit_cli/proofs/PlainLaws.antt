@@ -9,13 +9,15 @@ use Rattle.flit_cli.specs.Plays.{output_of}
 use Rattle.flit_cli.specs.SeenPlain.{AreInserts, IsSeenPlain}
 use Rattle.flit_cli.specs.Stepping.{IsReportOf, IsUnplain}
 
-no_insert : (front rest : List (ℕ × Item)) (line : ℕ) (item : Item) (keys : List ℕ) → ((key : ℕ) → item ≢ insert_of key) → AreInserts (front ++ (line, item) ∷ rest) keys → ⊥
+no_insert : (front rest : List (ℕ × Item)) (line : ℕ) (item : Item) (keys : List ℕ) → ((key : ℕ) → item ≢ insert_of key) →
+    AreInserts (front ++ (line, item) ∷ rest) keys → ⊥
 no_insert [] rest line item [] other inserts = cc
 no_insert [] rest line item (key ∷ keys) other inserts = other key cc
 no_insert (x ∷ xs) rest line item [] other inserts = cc
 no_insert (x ∷ xs) rest line item (key ∷ keys) other inserts = no_insert xs rest line item keys other cc
 
-pub other_item : (script front left rest : List (ℕ × Item)) (line : ℕ) (item : Item) → script ≡ front ++ left → left ≡ (line, item) ∷ rest → ((key : ℕ) → item ≢ insert_of key) → (keys : List ℕ) → AreInserts script keys → ⊥
+pub other_item : (script front left rest : List (ℕ × Item)) (line : ℕ) (item : Item) → script ≡ front ++ left → left ≡ (line, item) ∷ rest →
+    ((key : ℕ) → item ≢ insert_of key) → (keys : List ℕ) → AreInserts script keys → ⊥
 other_item script front left rest line item all is other keys inserts =
     no_insert front rest line item keys other (subst (λ (items : List (ℕ × Item)). AreInserts items keys) (all ∙ ap (λ items. front ++ items) is) inserts)
 
@@ -51,7 +53,8 @@ plain_seen t c rows keys shows plain =
       };
     }
 
-pub report_is : (bytes text : List ℕ) (t : SeenTrace) (keys : List ℕ) → IsReadAs bytes t → IsSeenPlain t t.head.layout.rows keys → text ≡ output_of t.head.layout.rows keys → IsReportOf bytes text
+pub report_is : (bytes text : List ℕ) (t : SeenTrace) (keys : List ℕ) → IsReadAs bytes t → IsSeenPlain t t.head.layout.rows keys →
+    text ≡ output_of t.head.layout.rows keys → IsReportOf bytes text
 report_is bytes text t keys read seen is = record {
   content = read.content;
   trace = read.is;

@@ -37,7 +37,8 @@ insert_entry-put (e ∷ es) k v = put_case (nat_cmp k e.0) _ _ _ _ (ap (λ xs. e
 pub contains-lookup : (m : Map) (es : List (ℕ × ℕ)) (key : ℕ) → fin.entries m ≡ es → fin.contains_key m key ≡ is_some (lookup (is_at (nat_cmp key)) es)
 contains-lookup m es key e = ap is_some (get-entries m key ∙ ap (find nat_cmp key) e ∙ sym (lookup-find es key))
 
-pub entries-inserted : (m : Map) (es : List (ℕ × ℕ)) (key value : ℕ) → fin.entries m ≡ es → fin.entries (fin.insert m key value) ≡ insert_entry nat_cmp es key value
+pub entries-inserted : (m : Map) (es : List (ℕ × ℕ)) (key value : ℕ) → fin.entries m ≡ es →
+    fin.entries (fin.insert m key value) ≡ insert_entry nat_cmp es key value
 entries-inserted m es key value e = entries-insert nat_cmp_total m key value ∙ ap (put nat_cmp key value) e ∙ sym (insert_entry-put es key value)
 
 -- the three cases of an insert
@@ -60,7 +61,8 @@ pub map_new : (rows : ℕ) (m : Map) (key : ℕ) → fin.contains_key m key ≡ 
 map_new rows m key h room = ap (λ b. cond (not b && (fin.len m == rows)) m (cond b m (fin.insert m key 0))) h ∙ ap (λ b. cond b m (fin.insert m key 0)) room
 
 -- the completed inserts are legal, and leave the map
-legal_case : (b : Bool) (n : ℕ) (m : Map) (key : ℕ) (es : List _) → IsLegal (cond b m (map_after m (insert_of key))) es → IsLegal m ((cond b [] (record { worker = 1; number = n; call = insert_of key; reply = reply_of m (insert_of key) } ∷ [])) ++ es)
+legal_case : (b : Bool) (n : ℕ) (m : Map) (key : ℕ) (es : List _) → IsLegal (cond b m (map_after m (insert_of key))) es →
+    IsLegal m ((cond b [] (record { worker = 1; number = n; call = insert_of key; reply = reply_of m (insert_of key) } ∷ [])) ++ es)
 legal_case true n m key es h = h
 legal_case false n m key es h = (refl, h)
 
@@ -68,7 +70,9 @@ pub completed_legal : (rows n : ℕ) (m : Map) (keys : List ℕ) → IsLegal m (
 completed_legal rows n m [] = tt
 completed_legal rows n m (key ∷ keys) = legal_case (has_no_row rows m key) n m key _ (completed_legal rows (suc n) (map_within rows m key) keys)
 
-map_case : (b : Bool) (n : ℕ) (m : Map) (key : ℕ) (es : List _) → map_after_all m ((cond b [] (record { worker = 1; number = n; call = insert_of key; reply = reply_of m (insert_of key) } ∷ [])) ++ es) ≡ map_after_all (cond b m (map_after m (insert_of key))) es
+map_case : (b : Bool) (n : ℕ) (m : Map) (key : ℕ) (es : List _) → map_after_all m
+    ((cond b [] (record { worker = 1; number = n; call = insert_of key; reply = reply_of m (insert_of key) } ∷ [])) ++ es) ≡ map_after_all
+    (cond b m (map_after m (insert_of key))) es
 map_case true n m key es = refl
 map_case false n m key es = refl
 
@@ -77,7 +81,8 @@ map_after_completed rows n m [] = refl
 map_after_completed rows n m (key ∷ keys) = map_case (has_no_row rows m key) n m key _ ∙ map_after_completed rows (suc n) (map_within rows m key) keys
 
 -- a map in so many rows never outgrows them
-len_case : (rows : ℕ) (m : Map) (key : ℕ) (b c : Bool) → fin.contains_key m key ≡ b → (fin.len m == rows) ≡ c → fin.len m ≤ rows → fin.len (map_within rows m key) ≤ rows
+len_case : (rows : ℕ) (m : Map) (key : ℕ) (b c : Bool) → fin.contains_key m key ≡ b → (fin.len m == rows) ≡ c → fin.len m ≤ rows →
+    fin.len (map_within rows m key) ≤ rows
 len_case rows m key true c here full h = subst (λ x. fin.len x ≤ rows) (sym (map_here rows m key here)) h
 len_case rows m key false true none full h = subst (λ x. fin.len x ≤ rows) (sym (map_full rows m key none full)) h
 len_case rows m key false false none room h =
@@ -143,7 +148,9 @@ played_none rows keys entries lines e l = record {
 one_played : (rows : ℕ) (m : Map) (keys : List ℕ) (n key : ℕ) → n < length keys → key ≡ get_or keys n 0 → drop n keys ≡ key ∷ drop (n + 1) keys
 one_played rows m keys n key h e = rw (e, add-one, drop-cons keys n 0) refl
 
-pub played_more : (rows : ℕ) (keys : List ℕ) (n key : ℕ) (reply : Reply) (entries new : List (ℕ × ℕ)) (lines : List Line) (h : HasPlayed rows keys n entries lines) → n < length keys → key ≡ get_or keys n 0 → reply ≡ reply_within rows h.map key → fin.entries (map_within rows h.map key) ≡ new → HasPlayed rows keys (n + 1) new (lines ++ call_of key reply ∷ [])
+pub played_more : (rows : ℕ) (keys : List ℕ) (n key : ℕ) (reply : Reply) (entries new : List (ℕ × ℕ)) (lines : List Line)
+    (h : HasPlayed rows keys n entries lines) → n < length keys → key ≡ get_or keys n 0 → reply ≡ reply_within rows h.map key →
+    fin.entries (map_within rows h.map key) ≡ new → HasPlayed rows keys (n + 1) new (lines ++ call_of key reply ∷ [])
 played_more rows keys n key reply entries new lines h lt k r e =
     let next : drop n keys ≡ key ∷ drop (n + 1) keys = one_played rows h.map keys n key lt k in
     record {
@@ -157,10 +164,13 @@ played_more rows keys n key reply entries new lines h lt k r e =
       after = ap (λ ks. map_after_keys rows h.map ks) (sym next) ∙ h.after;
     }
 
-pub played_all : (rows : ℕ) (keys : List ℕ) (n : ℕ) (entries : List (ℕ × ℕ)) (lines : List Line) → HasPlayed rows keys n entries lines → length keys ≤ n → (lines ≡ lines_within rows fin.empty keys) × (entries ≡ fin.entries (map_after_keys rows fin.empty keys)) × (length entries ≡ fin.len (map_after_keys rows fin.empty keys))
+pub played_all : (rows : ℕ) (keys : List ℕ) (n : ℕ) (entries : List (ℕ × ℕ)) (lines : List Line) → HasPlayed rows keys n entries lines → length keys ≤ n →
+    (lines ≡ lines_within rows fin.empty keys) × (entries ≡ fin.entries (map_after_keys rows fin.empty keys))
+    × (length entries ≡ fin.len (map_after_keys rows fin.empty keys))
 played_all rows keys n entries lines h le =
     let rest : drop n keys ≡ [] = drop_of_length-le keys le in
-    let told : lines ++ lines_within rows h.map [] ≡ lines_within rows fin.empty keys = subst (λ ks. lines ++ lines_within rows h.map ks ≡ lines_within rows fin.empty keys) rest h.told in
+    let told : lines ++ lines_within rows h.map [] ≡ lines_within rows fin.empty keys =
+    subst (λ ks. lines ++ lines_within rows h.map ks ≡ lines_within rows fin.empty keys) rest h.told in
     let after : h.map ≡ map_after_keys rows fin.empty keys = subst (λ ks. map_after_keys rows h.map ks ≡ map_after_keys rows fin.empty keys) rest h.after in
     (sym (append-nil lines) ∙ told, sym h.same ∙ ap fin.entries after, sym (ap length h.same) ∙ sym (len-entries h.map) ∙ ap fin.len after)
 
@@ -168,8 +178,21 @@ pub played_fits : (rows : ℕ) (keys : List ℕ) (n : ℕ) (entries : List (ℕ 
 played_fits rows keys n entries lines h = subst (λ l. l ≤ rows) (len-entries h.map ∙ ap length h.same) h.fits
 
 -- the report of the inserts, from its parts
-pub same_report : (rows : ℕ) (played : List ℕ) (events : List Shown) (lines : List Line) (history : List Entry) (tallies : List Tally) (keys values : List ℕ) (free : ℕ) →
-    events ≡ [] → lines ≡ lines_within rows fin.empty played → history ≡ [] → tallies ≡ [] → keys ≡ fin.keys (map_after_keys rows fin.empty played) → values ≡ [] → free ≡ rows - fin.len (map_after_keys rows fin.empty played) →
-    ◌≡◌ {A = Content} (record { summary = false; version = 1; events = events; lines = lines; history = history; tallies = tallies; keys = keys; values = values; free = free }) (report_of rows played)
+pub same_report : (rows : ℕ) (played : List ℕ) (events : List Shown) (lines : List Line) (history : List Entry) (tallies : List Tally) (keys values : List ℕ)
+    (free : ℕ) →
+    events ≡ [] → lines ≡ lines_within rows fin.empty played → history ≡ [] → tallies ≡ [] → keys ≡ fin.keys (map_after_keys rows fin.empty played) →
+    values ≡ [] → free ≡ rows - fin.len (map_after_keys rows fin.empty played) →
+    ◌≡◌ {A = Content} (record {
+      summary = false;
+      version = 1;
+      events = events;
+      lines = lines;
+      history = history;
+      tallies = tallies;
+      keys = keys;
+      values =
+          values;
+      free = free;
+    }) (report_of rows played)
 same_report rows played events lines history tallies keys values free e l h t k v f =
     λ i. record { summary = false; version = 1; events = e i; lines = l i; history = h i; tallies = t i; keys = k i; values = v i; free = f i }

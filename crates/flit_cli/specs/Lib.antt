@@ -1,7 +1,8 @@
-pub mod Plays
-pub mod Statuses
-pub mod Writing
-pub mod Stepping
-pub mod Recovering
 pub mod Making
+pub mod Plays
+pub mod Reading
+pub mod Recovering
 pub mod SeenPlain
+pub mod Statuses
+pub mod Stepping
+pub mod Writing

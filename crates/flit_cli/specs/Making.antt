@@ -1,8 +1,9 @@
 -- What the command `make` writes: the text that the generator makes of the numbers among its words.
-use Rattle.std.specs.Prelude.{◌≡◌, ℕ, ◌<◌, List, ◌++◌, length, take, Option, Some, IfSome}
-use Rattle.flit_outside.specs.declared.commands.Making.{Making}
-use Rattle.flit_outside.specs.CommandWords.{make_words, IsInRange}
+use Rattle.std.specs.Prelude.{◌≡◌, ℕ, List, Option}
+use Rattle.flit_commands.specs.declared.commands.Making.{Making}
+use Rattle.flit_commands.specs.CommandWords.{make_words, IsInRange}
 use Rattle.flit_generator.specs.Generator.{generated_text}
+use Rattle.flit_cli.specs.Writing.{WroteAt}
 use Rattle.flit_cli.specs.declared.status.Status.{Status}
 use Rattle.flit_cli.specs.declared.status.Status.TheVariants.{Done, Usage, BadTrace, Limit, BadImage, ReadFault, WriteFault, NoMemory}
 
@@ -13,17 +14,9 @@ pub record IsMadeOf (words : List (List ℕ)) (text : List ℕ) : Type 0 where
   pub said : words ≡ make_words making
   pub text_is : text ≡ generated_text making.seed making.calls making.keys making.workers
 
--- the whole of that text stands behind what the sink had taken
-pub record WroteMade (words : List (List ℕ)) (before after : Option (List ℕ)) : Type 0 where
-  pub text : List ℕ
-  pub made : IsMadeOf words text
-  pub written : IfSome before (λ bytes. after ≡ Some (bytes ++ text))
-
--- a proper front of that text does
-pub record WroteMadeFront (words : List (List ℕ)) (before after : Option (List ℕ)) : Type 0 where
-  pub text : List ℕ
-  pub made : IsMadeOf words text
-  pub written : IfSome before (λ bytes. (count : ℕ) × (count < length text) × (after ≡ Some (bytes ++ take count text)))
+-- that text was written: the whole of it at Done, a proper front of it at WriteFault
+abbrev pub WroteMade : Status → List (List ℕ) → Option (List ℕ) → Option (List ℕ) → Type 0
+WroteMade status words before after = WroteAt status (IsMadeOf words) before after
 
 -- how `make` may end
 abbrev pub EndsMake : Status → Type 0

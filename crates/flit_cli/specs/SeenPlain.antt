@@ -25,6 +25,14 @@ pub record IsSeenPlain (t : SeenTrace) (rows : ℕ) (keys : List ℕ) : Type 0 w
   pub inserts : AreInserts (script_at t 1) keys
   pub no_more : TellsNoMore t
 
+-- the items are not inserts of version 1 alone
+abbrev pub AreNoInserts : List (ℕ × Item) → Type 0
+AreNoInserts script = (keys : List ℕ) → ¬ AreInserts script keys
+
+-- the trace isn't plain
+abbrev pub IsNotPlain : SeenTrace → Type 0
+IsNotPlain t = (rows : ℕ) (keys : List ℕ) → ¬ IsSeenPlain t rows keys
+
 -- why there are no keys of a plain trace: it isn't one, or there was no memory
 abbrev pub IsUnplainFault : Type 0 → Status → Type 0
 IsUnplainFault not_plain (BadTrace line) = (line ≡ 0) × not_plain

@@ -8,7 +8,8 @@ mod recover;
 mod status;
 mod step;
 
-pub use flit_outside::{Failed, MemSink, MemSource, Sink, Source, StdSink, StdSource, Words};
+pub use flit_commands::Words;
+pub use flit_outside::{Failed, MemSink, MemSource, Sink, Source, StdSink, StdSource};
 pub use make::flit_make;
 pub use plays::plays_are_legal;
 pub use recover::flit_recover;

@@ -1,13 +1,13 @@
-ghost use Rattle.std.specs.Prelude.{◌≡◌, ◌≢◌, ◌↔◌};
-ghost use Rattle.flit_outside.specs.declared.commands.Making.{Making};
-ghost use Rattle.flit_outside.specs.Outside.{Rose};
-ghost use Rattle.flit_outside.specs.CommandWords.{make_words, IsInRange};
+ghost use Rattle.std.specs.Prelude.{◌≡◌, ◌↔◌};
+ghost use Rattle.flit_commands.specs.CommandWords.{NamesNoMaking};
 ghost use Rattle.flit_cli.specs.Statuses.{WritesNothing};
-ghost use Rattle.flit_cli.specs.Making.{WroteMade, WroteMadeFront, EndsMake};
+ghost use Rattle.flit_cli.specs.Writing.{CountsWrites};
+ghost use Rattle.flit_cli.specs.Making.{WroteMade, EndsMake};
 
 use crate::status::Status;
+use flit_commands::{Words, making_of};
 use flit_generator::generator_text;
-use flit_outside::{Sink, Source, Words, making_of, write_all};
+use flit_outside::{Sink, Source, write_all};
 use std::alloc::Global;
 
 #[cfg(test)]
@@ -25,11 +25,10 @@ pub fn flit_make<S: Source, K: Sink>(
     source: &mut S,
     sink: &mut K,
 ) -> Status
-    ensures usage { (result ≡ Status.Usage) ↔ ((making : Making) → IsInRange making → words.now ≢ make_words making) }
+    ensures usage { (result ≡ Status.Usage) ↔ NamesNoMaking words.now }
     ensures unread { source.new ≡ source.old }
-    ensures done { result ≡ Status.Done → WroteMade words.now (K.taken sink.old) (K.taken sink.new) }
-    ensures write_fault { result ≡ Status.WriteFault → Rose (K.faults sink.old) (K.faults sink.new) }
-    ensures cut { result ≡ Status.WriteFault → WroteMadeFront words.now (K.taken sink.old) (K.taken sink.new) }
+    ensures wrote { WroteMade result words.now (K.taken sink.old) (K.taken sink.new) }
+    ensures write_faults { CountsWrites result (K.faults sink.old) (K.faults sink.new) }
     ensures unwritten { WritesNothing result → sink.new ≡ sink.old }
     ensures only { EndsMake result }
 {

@@ -1,12 +1,12 @@
-ghost use Rattle.std.specs.Prelude.{◌≡◌, ◌≢◌, ◌↔◌, ◌≤◌, ℕ, List, IfOk, IfErr, IfSome, IfNone, IsTrue};
+ghost use Rattle.std.specs.Prelude.{◌≡◌, ◌≢◌, ◌↔◌, ◌≤◌, ℕ, IfOk, IfErr, IfSome, IfNone, IsTrue};
 ghost use Rattle.flit_trace.specs.SeenTraces.{IsWorker};
 ghost use Rattle.flit_trace.specs.PlainContents.{list_head, insert_of};
-ghost use Rattle.flit_cli.specs.SeenPlain.{AreInserts, TellsNoMore, IsSeenPlain, IsUnplainFault};
+ghost use Rattle.flit_cli.specs.SeenPlain.{AreInserts, AreNoInserts, TellsNoMore, IsSeenPlain, IsNotPlain, IsUnplainFault};
 
 use crate::status::Status;
 use flit_model::{Ahead, Call, Item};
 use flit_trace::{Head, Place, Script, Trace};
-use flit_words::{Kind, Layout};
+use flit_words::{GREATEST_VERSION, Kind, Layout, MOST_ROWS};
 use std::alloc::Global;
 
 /// What is answered for a trace that isn't plain.
@@ -15,7 +15,7 @@ const UNPLAIN: Status = Status::BadTrace { line: 0 };
 /// The head of a plain trace of so many rows.
 fn list_head(rows: u32) -> Head
     requires least { 1 ≤ rows }
-    requires most { rows ≤ 1048575 }
+    requires most { rows ≤ MOST_ROWS }
     ensures { result ≡ list_head rows }
 {
     let list = Layout {
@@ -24,7 +24,7 @@ fn list_head(rows: u32) -> Head
         rows,
         slots: 0,
         workers: 1,
-        limit: 2147483647,
+        limit: GREATEST_VERSION,
         values: false,
     };
     Head {
@@ -61,7 +61,7 @@ fn inserted_key(item: Item) -> Option<u32>
 /// The keys that the items insert.
 fn inserted_keys(alloc: Global, script: Script<'_>) -> Result<Vec<u32>, Status>
     ensures ok { IfOk result (λ keys. AreInserts script.entry keys.items) }
-    ensures err { IfErr result (IsUnplainFault ((keys : List ℕ) → ¬ AreInserts script.entry keys)) }
+    ensures err { IfErr result (IsUnplainFault (AreNoInserts script.entry)) }
 {
     let mut keys = Vec::new(alloc);
     for (_, item) in script {
@@ -76,7 +76,7 @@ fn inserted_keys(alloc: Global, script: Script<'_>) -> Result<Vec<u32>, Status>
 /// The keys that a plain trace inserts into its list.
 pub(crate) fn plain_keys(alloc: Global, trace: &Trace<'_>) -> Result<Vec<u32>, Status>
     ensures ok { IfOk result (λ keys. IsSeenPlain trace.now trace.now.head.layout.rows keys.items) }
-    ensures err { IfErr result (IsUnplainFault ((rows : ℕ) (keys : List ℕ) → ¬ IsSeenPlain trace.now rows keys)) }
+    ensures err { IfErr result (IsUnplainFault (IsNotPlain trace.now)) }
 {
     let head = trace.head();
     if head != list_head(head.layout.rows) || !tells_no_more(trace) {

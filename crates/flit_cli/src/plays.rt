@@ -1,9 +1,7 @@
-ghost use Rattle.std.specs.Prelude.{◌≡◌, ◌≤◌, ℕ, IfOk, List, length};
+ghost use Rattle.std.specs.Prelude.{◌≡◌, IfOk};
 ghost use Rattle.std.specs.BTreeMap.{keys};
-ghost use Rattle.std.specs.FinMap as fin;
-ghost use Rattle.flit_model.specs.Maps.{Map, IsLegal, map_after_all};
 ghost use Rattle.flit_report.specs.Report.{content_of};
-ghost use Rattle.flit_cli.specs.Plays.{reply_within, map_within, map_after_keys, completed_from, report_of};
+ghost use Rattle.flit_cli.specs.Plays.{PlaysInsert, PlaysAreLegal, PlaysLeaveTheirMap, PlaysFitTheirRows, report_of};
 
 use flit_model::{Call, Outcome, Reply};
 use flit_report::{Line, Report};
@@ -13,8 +11,7 @@ use std::collections::BTreeMap;
 
 /// What an insert of the key is answered by a list of so many rows whose keys are in the map.
 fn insert(map: &mut BTreeMap<u32, u32>, rows: u32, key: u32) -> Result<Reply, NoMemory>
-    ensures reply { (m : Map) → fin.entries m ≡ map.old.entries → IfOk result (λ reply. reply ≡ reply_within rows m key) }
-    ensures entries { (m : Map) → fin.entries m ≡ map.old.entries → IfOk result (λ _. fin.entries (map_within rows m key) ≡ map.new.entries) }
+    ensures { IfOk result (λ reply. PlaysInsert rows key map.old.entries reply map.new.entries) }
 {
     if map.contains_key(&key) {
         Ok(Reply::No)
@@ -65,7 +62,7 @@ pub(crate) fn report_of_inserts(alloc: Global, rows: u32, keys: &[u32]) -> Resul
 /// The completed calls of such a run are a legal list of entries from the empty map, and the map after it is the one
 /// whose keys the report tells.
 pub fn plays_are_legal()
-    ensures legal { (rows n : ℕ) (m : Map) (keys : List ℕ) → IsLegal m (completed_from n rows m keys) }
-    ensures map { (rows n : ℕ) (m : Map) (keys : List ℕ) → map_after_all m (completed_from n rows m keys) ≡ map_after_keys rows m keys }
-    ensures rows { (rows : ℕ) (keys : List ℕ) → fin.len (map_after_keys rows fin.empty keys) ≤ rows }
+    ensures legal { PlaysAreLegal }
+    ensures map { PlaysLeaveTheirMap }
+    ensures rows { PlaysFitTheirRows }
 {}

@@ -1,41 +1,77 @@
-ghost use Rattle.std.specs.Prelude.{◌≡◌, ◌≢◌, ℕ, ◌<◌, ◌≤◌, [], length, Some, IfOk, IfErr, IfSome, OnOk, ◌↔◌};
-ghost use Rattle.flit_trace.specs.declared.faults.Bound.{Bound};
-ghost use Rattle.flit_trace.specs.declared.faults.Bound.TheVariants.{Bytes};
-ghost use Rattle.flit_cli.specs.declared.status.ImageFault.{ImageFault};
-ghost use Rattle.flit_outside.specs.Outside.{Rose};
-ghost use Rattle.flit_outside.specs.declared.commands.Command.TheVariants.{Recover};
-ghost use Rattle.flit_outside.specs.CommandWords.{said_by};
+ghost use Rattle.std.specs.Prelude.{◌≡◌, ◌≢◌, ◌≤◌, [], length, Some, IfOk, IfErr, IfSome, OnOk, ◌↔◌};
+ghost use Rattle.flit_model.specs.Recovery.{layout_of, IsWhole};
+ghost use Rattle.flit_commands.specs.declared.commands.Command.TheVariants.{Recover};
+ghost use Rattle.flit_commands.specs.CommandWords.{said_by};
 ghost use Rattle.flit_cli.specs.Statuses.{WritesNothing};
-ghost use Rattle.flit_cli.specs.Writing.{Wrote, WroteFront};
-ghost use Rattle.flit_cli.specs.Recovering.{IsRecoveryOf, IsBadImage, IsNoRecovery};
+ghost use Rattle.flit_cli.specs.Reading.{LeavesInput, CountsReads, StopsBefore};
+ghost use Rattle.flit_cli.specs.Writing.{CountsWrites};
+ghost use Rattle.flit_cli.specs.Recovering.{IsImageIn, IsImageOfInput, IsRecoveryText, IsRecoveryOfInput, HasNoImage, HasNoRecovery, BlamesImage, WroteRecovery};
 
 use crate::status::{ImageFault, Status};
-use flit_image::{ImageError, view_image};
-use flit_outside::{InputError, Sink, Source, Words, read_input, write_all};
-use flit_recover::{Damage, recover_view};
+use flit_commands::Words;
+use flit_image::{Image, ImageError, read_image};
+use flit_outside::{InputError, Sink, Source, read_input, write_all};
+use flit_recover::{Damage, recover_owned};
 use flit_report::recovery_text;
 use flit_trace::Bound;
+use flit_words::MOST_BYTES;
 use std::alloc::Global;
 
 #[cfg(test)]
 mod tests;
 
-/// What the image recovers to whose text the bytes are.
-fn recovery_of_text(alloc: Global, bytes: &[u8]) -> Result<Vec<u8>, Status>
-    ensures text { IfOk result (λ text. IsRecoveryOf bytes.now text.items) }
-    ensures fault { IfErr result (IsNoRecovery ⊥ ⊥ (IsBadImage bytes.now)) }
+/// The image whose text the bytes are.
+fn image_of_text(alloc: Global, bytes: &[u8]) -> Result<Image, Status>
+    ensures whole { IfOk result IsWhole }
+    ensures image { IfOk result (IsImageIn bytes.now) }
+    ensures fault { IfErr result (HasNoImage bytes.now) }
 {
-    let view = match view_image(alloc, bytes) {
-        Ok(view) => view,
-        Err(ImageError::NoMemory) => return Err(Status::NoMemory),
-        Err(error) => return Err(Status::BadImage(ImageFault::Text(error))),
-    };
-    let found = match recover_view(alloc, &view) {
+    match read_image(alloc, bytes) {
+        Ok(image) => Ok(image),
+        Err(ImageError::NoMemory) => Err(Status::NoMemory),
+        Err(error) => Err(Status::BadImage(ImageFault::Text(error))),
+    }
+}
+
+/// The image whose text the source has. The text itself isn't kept.
+fn image_of_source<S: Source>(alloc: Global, source: &mut S) -> Result<Image, Status>
+    ensures whole { IfOk result IsWhole }
+    ensures image { IfOk result (IsImageOfInput (S.left source.old)) }
+    ensures short { OnOk result (IfSome (S.left source.old) (λ input. length input ≤ MOST_BYTES)) }
+    ensures ended { OnOk result (IfSome (S.left source.old) (λ _. S.left source.new ≡ Some [])) }
+    ensures steady { OnOk result (S.faults source.new ≡ S.faults source.old) }
+    ensures stops { IfErr result StopsBefore }
+    ensures blames { IfErr result (λ status. BlamesImage status (S.left source.old)) }
+    ensures leaves { IfErr result (λ status.
+        IfSome (S.left source.old) (LeavesInput status (S.left source.new))) }
+    ensures read_faults { IfErr result (λ status.
+        CountsReads status (S.faults source.old) (S.faults source.new)) }
+    ensures never_falls { S.faults source.old ≤ S.faults source.new }
+{
+    match read_input(alloc, source) {
+        Ok(bytes) => image_of_text(alloc, &bytes),
+        Err(InputError::Fault) => Err(Status::ReadFault),
+        Err(InputError::TooLong) => Err(Status::Limit {
+            line: 0,
+            limit: Bound::Bytes,
+        }),
+        Err(InputError::NoMemory) => Err(Status::NoMemory),
+    }
+}
+
+/// What the image recovers to, as a text.
+fn recovery_of_image(alloc: Global, image: Image) -> Result<Vec<u8>, Status>
+    requires { IsWhole image }
+    ensures text { IfOk result (λ text.
+        IsRecoveryText (layout_of image) image.words.items text.items) }
+    ensures fault { IfErr result (HasNoRecovery (layout_of image) image.words.items) }
+{
+    let valued = image.values;
+    let found = match recover_owned(alloc, image) {
         Ok(found) => found,
         Err(Damage::NoMemory) => return Err(Status::NoMemory),
         Err(damage) => return Err(Status::BadImage(ImageFault::Damage(damage))),
     };
-    let valued = view.layout().values;
     recovery_text(alloc, valued, &found.keys, &found.values, &found.free).map_err(
         |_| Status::NoMemory,
     )
@@ -43,21 +79,20 @@ fn recovery_of_text(alloc: Global, bytes: &[u8]) -> Result<Vec<u8>, Status>
 
 /// What the image recovers to whose text the source has.
 fn recovery_of_source<S: Source>(alloc: Global, source: &mut S) -> Result<Vec<u8>, Status>
-    ensures text { IfOk result (λ text. IfSome (S.left source.old) (λ input. IsRecoveryOf input text.items)) }
+    ensures text { IfOk result (λ text. IsRecoveryOfInput (S.left source.old) text.items) }
     ensures ended { OnOk result (IfSome (S.left source.old) (λ _. S.left source.new ≡ Some [])) }
-    ensures fault { IfErr result (IsNoRecovery (Rose (S.faults source.old) (S.faults source.new))
-        (IfSome (S.left source.old) (λ input. 268435456 < length input))
-        (λ fault. IfSome (S.left source.old) (λ input. IsBadImage input fault))) }
+    ensures steady { OnOk result (S.faults source.new ≡ S.faults source.old) }
+    ensures stops { IfErr result StopsBefore }
+    ensures blames { IfErr result (λ status. BlamesImage status (S.left source.old)) }
+    ensures leaves { IfErr result (λ status.
+        IfSome (S.left source.old) (LeavesInput status (S.left source.new))) }
+    ensures read_faults { IfErr result (λ status.
+        CountsReads status (S.faults source.old) (S.faults source.new)) }
     ensures never_falls { S.faults source.old ≤ S.faults source.new }
 {
-    match read_input(alloc, source) {
-        Ok(bytes) => recovery_of_text(alloc, &bytes),
-        Err(InputError::Fault) => Err(Status::ReadFault),
-        Err(InputError::TooLong) => Err(Status::Limit {
-            line: 0,
-            limit: Bound::Bytes,
-        }),
-        Err(InputError::NoMemory) => Err(Status::NoMemory),
+    match image_of_source(alloc, source) {
+        Ok(image) => recovery_of_image(alloc, image),
+        Err(status) => Err(status),
     }
 }
 
@@ -75,15 +110,14 @@ pub fn flit_recover<S: Source, K: Sink>(
 ) -> Status
     ensures usage { (result ≡ Status.Usage) ↔ (words.now ≢ said_by Recover) }
     ensures unread { result ≡ Status.Usage → source.new ≡ source.old }
-    ensures done { result ≡ Status.Done → IfSome (S.left source.old) (λ input. Wrote (IsRecoveryOf input) (S.left source.new) (K.taken sink.old) (K.taken sink.new)) }
 
-    // With the clauses done and cut: this comes exactly where the bytes are no text of a lawful image.
-    ensures bad_image { (fault : ImageFault) → result ≡ Status.BadImage fault → IfSome (S.left source.old) (λ input. IsBadImage input fault) }
-    ensures limit { (line : ℕ) (limit : Bound) → result ≡ Status.Limit line limit → (line ≡ 0) × (limit ≡ Bytes) × IfSome (S.left source.old) (λ input. 268435456 < length input) }
-    ensures no_trace { (line : ℕ) → result ≢ Status.BadTrace line }
-    ensures read_fault { result ≡ Status.ReadFault → Rose (S.faults source.old) (S.faults source.new) }
-    ensures write_fault { result ≡ Status.WriteFault → Rose (K.faults sink.old) (K.faults sink.new) }
-    ensures cut { result ≡ Status.WriteFault → IfSome (S.left source.old) (λ input. WroteFront (IsRecoveryOf input) (S.left source.new) (K.taken sink.old) (K.taken sink.new)) }
+    // With the clause wrote: BadImage comes exactly where the bytes are no text of a lawful image.
+    ensures blames { BlamesImage result (S.left source.old) }
+    ensures leaves { IfSome (S.left source.old) (LeavesInput result (S.left source.new)) }
+    ensures read_faults { CountsReads result (S.faults source.old) (S.faults source.new) }
+
+    ensures wrote { WroteRecovery result (S.left source.old) (K.taken sink.old) (K.taken sink.new) }
+    ensures write_faults { CountsWrites result (K.faults sink.old) (K.faults sink.new) }
     ensures unwritten { WritesNothing result → sink.new ≡ sink.old }
 {
     if !words.is(&["recover"]) {

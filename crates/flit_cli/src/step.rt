@@ -1,17 +1,16 @@
-ghost use Rattle.std.specs.Prelude.{◌≡◌, ◌≢◌, ℕ, ◌≤◌, [], Some, IfOk, IfErr, IfSome, OnOk, ◌↔◌};
-ghost use Rattle.flit_trace.specs.declared.faults.Bound.{Bound};
-ghost use Rattle.flit_cli.specs.declared.status.ImageFault.{ImageFault};
-ghost use Rattle.flit_outside.specs.Outside.{Rose};
-ghost use Rattle.flit_outside.specs.declared.commands.Command.TheVariants.{Step};
-ghost use Rattle.flit_outside.specs.CommandWords.{said_by};
+ghost use Rattle.std.specs.Prelude.{◌≡◌, ◌≢◌, ◌≤◌, [], Some, None, IfOk, IfErr, IfSome, OnOk, ◌↔◌};
+ghost use Rattle.flit_commands.specs.declared.commands.Command.TheVariants.{Step};
+ghost use Rattle.flit_commands.specs.CommandWords.{said_by};
 ghost use Rattle.flit_cli.specs.Statuses.{WritesNothing};
-ghost use Rattle.flit_cli.specs.Stepping.{IsReportOf, IsBadTrace, IsOverLimit, IsNoReport};
-ghost use Rattle.flit_cli.specs.Writing.{Wrote, WroteFront};
+ghost use Rattle.flit_cli.specs.Reading.{LeavesInput, CountsReads, StopsBefore};
+ghost use Rattle.flit_cli.specs.Writing.{CountsWrites};
+ghost use Rattle.flit_cli.specs.Stepping.{IsReportOf, IsReportOfInput, HasNoReport, BlamesTrace, WroteReport};
 
 use crate::plain::plain_keys;
 use crate::plays::report_of_inserts;
 use crate::status::Status;
-use flit_outside::{InputError, Sink, Source, Words, read_input, write_all};
+use flit_commands::Words;
+use flit_outside::{InputError, Sink, Source, read_input, write_all};
 use flit_report::report_text;
 use flit_trace::{Bound, TraceError, read_trace};
 use std::alloc::Global;
@@ -22,7 +21,7 @@ mod tests;
 /// The report of the plain trace that the bytes are.
 fn report_of_trace(alloc: Global, bytes: &[u8]) -> Result<Vec<u8>, Status>
     ensures text { IfOk result (λ text. IsReportOf bytes.now text.items) }
-    ensures fault { IfErr result (IsNoReport ⊥ (IsBadTrace bytes.now) (IsOverLimit bytes.now)) }
+    ensures fault { IfErr result (HasNoReport bytes.now) }
 {
     let trace = match read_trace(alloc, bytes) {
         Ok(trace) => trace,
@@ -40,11 +39,15 @@ fn report_of_trace(alloc: Global, bytes: &[u8]) -> Result<Vec<u8>, Status>
 
 /// The report of the plain trace that the source has.
 fn report_of_source<S: Source>(alloc: Global, source: &mut S) -> Result<Vec<u8>, Status>
-    ensures text { IfOk result (λ text. IfSome (S.left source.old) (λ input. IsReportOf input text.items)) }
+    ensures text { IfOk result (λ text. IsReportOfInput (S.left source.old) text.items) }
     ensures ended { OnOk result (IfSome (S.left source.old) (λ _. S.left source.new ≡ Some [])) }
-    ensures fault { IfErr result (IsNoReport (Rose (S.faults source.old) (S.faults source.new))
-        (λ line. IfSome (S.left source.old) (λ input. IsBadTrace input line))
-        (λ line limit. IfSome (S.left source.old) (λ input. IsOverLimit input line limit))) }
+    ensures steady { OnOk result (S.faults source.new ≡ S.faults source.old) }
+    ensures stops { IfErr result StopsBefore }
+    ensures blames { IfErr result (λ status. BlamesTrace status (S.left source.old)) }
+    ensures leaves { IfErr result (λ status.
+        IfSome (S.left source.old) (LeavesInput status (S.left source.new))) }
+    ensures read_faults { IfErr result (λ status.
+        CountsReads status (S.faults source.old) (S.faults source.new)) }
     ensures never_falls { S.faults source.old ≤ S.faults source.new }
 {
     match read_input(alloc, source) {
@@ -75,16 +78,16 @@ pub fn flit_step<S: Source, K: Sink>(
 ) -> Status
     ensures usage { (result ≡ Status.Usage) ↔ (words.now ≢ said_by (Step None)) }
     ensures unread { result ≡ Status.Usage → source.new ≡ source.old }
-    ensures done { result ≡ Status.Done → IfSome (S.left source.old) (λ input. Wrote (IsReportOf input) (S.left source.new) (K.taken sink.old) (K.taken sink.new)) }
 
-    // With the clauses done and cut: these come exactly where the first fault of the bytes is at that line, or past that
-    // limit, and BadTrace at line 0 exactly where they are a trace that isn't plain.
-    ensures bad_trace { (line : ℕ) → result ≡ Status.BadTrace line → IfSome (S.left source.old) (λ input. IsBadTrace input line) }
-    ensures limit { (line : ℕ) (limit : Bound) → result ≡ Status.Limit line limit → IfSome (S.left source.old) (λ input. IsOverLimit input line limit) }
-    ensures no_image { (fault : ImageFault) → result ≢ Status.BadImage fault }
-    ensures read_fault { result ≡ Status.ReadFault → Rose (S.faults source.old) (S.faults source.new) }
-    ensures write_fault { result ≡ Status.WriteFault → Rose (K.faults sink.old) (K.faults sink.new) }
-    ensures cut { result ≡ Status.WriteFault → IfSome (S.left source.old) (λ input. WroteFront (IsReportOf input) (S.left source.new) (K.taken sink.old) (K.taken sink.new)) }
+    // With the clause wrote: BadTrace and Limit come exactly where the first fault of the bytes is
+    // at that line, or past that limit, and BadTrace at line 0 exactly where they are a trace that
+    // isn't plain.
+    ensures blames { BlamesTrace result (S.left source.old) }
+    ensures leaves { IfSome (S.left source.old) (LeavesInput result (S.left source.new)) }
+    ensures read_faults { CountsReads result (S.faults source.old) (S.faults source.new) }
+
+    ensures wrote { WroteReport result (S.left source.old) (K.taken sink.old) (K.taken sink.new) }
+    ensures write_faults { CountsWrites result (K.faults sink.old) (K.faults sink.new) }
     ensures unwritten { WritesNothing result → sink.new ≡ sink.old }
 {
     if !words.is(&["step"]) {

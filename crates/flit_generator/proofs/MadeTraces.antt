@@ -30,13 +30,15 @@ key_within keys workers worker d some few in_it least =
     let most : d % keys * workers ≤ 32767 * 64 = mul-le-mul rest least in
     omega (arith, most)
 
-pub calls_made : (keys workers i x n : ℕ) → 1 ≤ keys → keys ≤ 32768 → 1 ≤ workers → workers ≤ 64 → AllByRecursion (IsMade workers) (calls_from keys workers i x n)
+pub calls_made : (keys workers i x n : ℕ) → 1 ≤ keys → keys ≤ 32768 → 1 ≤ workers → workers ≤ 64 →
+    AllByRecursion (IsMade workers) (calls_from keys workers i x n)
 calls_made keys workers i x zero some few one least = tt
 calls_made keys workers i x (suc n) some few one least = (
   record {
     least = omega arith;
     most = worker_within workers i one;
-    fits = fits_call (drawn (next_state x) % 4 == 2) (drawn (next_state x) % 4 == 3) _ (key_within keys workers (worker_of workers i) (drawn (next_state (next_state x))) some few (worker_within workers i one) least);
+    fits = fits_call (drawn (next_state x) % 4 == 2) (drawn (next_state x) % 4 == 3) _
+        (key_within keys workers (worker_of workers i) (drawn (next_state (next_state x))) some few (worker_within workers i one) least);
   },
   calls_made keys workers (i + 1) (next_state (next_state x)) n some few one least,
 )
@@ -70,7 +72,14 @@ right_size (line ∷ lines) h = omega (arith, right_size lines h.1, h.0.1, lengt
 
 short_line : (worker key : ℕ) (name : List ℕ) → worker ≤ 64 → key ≤ 4294967292 → length name ≤ 8 → length (worker_line worker name key) ≤ 39
 short_line worker key name in_it is_key short =
-    omega (arith, length-append (decimal worker) (32 ∷ (name ++ 32 ∷ decimal key)), length-append name (32 ∷ decimal key), length-decimal-le 10 worker (omega arith) (omega arith) (omega arith), length-decimal-le 10 key (omega arith) (omega arith) (omega arith))
+    omega (
+      arith,
+      length-append (decimal worker) (32 ∷ (name ++ 32 ∷ decimal key)),
+      length-append name (32 ∷ decimal key),
+      length-decimal-le 10 worker
+          (omega arith) (omega arith) (omega arith),
+      length-decimal-le 10 key (omega arith) (omega arith) (omega arith),
+    )
 
 short_call : (worker : ℕ) (call : Call) → worker ≤ 64 → Fits call → length (call_line worker call) ≤ 39
 short_call worker (Insert key value) in_it h = short_line worker key (codes "insert") in_it h.1 (omega arith)
@@ -95,7 +104,10 @@ right_head calls workers few least = (
     (tested (codes "structure hash 256") refl, omega arith),
     (
       (tested (codes "place adjacent") refl, omega arith),
-      (right_number (codes "rows ") (rows_of calls workers) refl (omega arith) (omega arith), (right_number (codes "workers ") workers refl (omega arith) (omega arith), tt)),
+      (
+        right_number (codes "rows ") (rows_of calls workers) refl (omega arith) (omega arith),
+        (right_number (codes "workers ") workers refl (omega arith) (omega arith), tt),
+      ),
     ),
   ),
 )
@@ -119,19 +131,24 @@ same_items : (n : ℕ) (cs : List (ℕ × Call)) → written.lines_from n cs ≡
 same_items n [] = refl
 same_items n (c ∷ cs) = ap (λ items. record { line = n; worker = c.0; item = item.Call c.1 } ∷ items) (same_items (suc n) cs)
 
-same_content : (seed calls keys workers : ℕ) → written.content_with (rows_of calls workers) workers (generated_calls seed calls keys workers) ≡ generated_content seed calls keys workers
+same_content : (seed calls keys workers : ℕ) → written.content_with (rows_of calls workers) workers
+    (generated_calls seed calls keys workers) ≡ generated_content seed calls keys workers
 same_content seed calls keys workers =
     ap (λ items. record (generated_content seed calls keys workers) { items = items }) (same_items 6 (generated_calls seed calls keys workers))
 
 -- the text is a trace with these calls
-pub trace_made : (seed calls keys workers : ℕ) → AreTaken seed calls keys workers → IsTrace (generated_text seed calls keys workers) (generated_content seed calls keys workers)
+pub trace_made : (seed calls keys workers : ℕ) → AreTaken seed calls keys workers →
+    IsTrace (generated_text seed calls keys workers) (generated_content seed calls keys workers)
 unfolding generated_text
 trace_made seed calls keys workers taken =
     let made = generated_calls seed calls keys workers in
     let lines = generated_lines seed calls keys workers in
-    let fit : AllByRecursion (IsMade workers) made = calls_made keys workers 0 seed calls taken.least_keys taken.most_keys taken.least_workers taken.most_workers in
+    let fit : AllByRecursion (IsMade workers) made = calls_made keys workers 0 seed calls taken.least_keys taken.most_keys taken.least_workers
+    taken.most_workers in
     let right : AllByRecursion IsRight lines =
-    right-append (head_lines calls workers ++ call_lines made) (codes "end" ∷ []) (right-append (head_lines calls workers) (call_lines made) (right_head calls workers taken.most_calls taken.most_workers) (right_calls workers made taken.most_workers fit))
+    right-append (head_lines calls workers ++ call_lines made) (codes "end" ∷ [])
+    (right-append (head_lines calls workers) (call_lines made) (right_head calls workers taken.most_calls taken.most_workers)
+    (right_calls workers made taken.most_workers fit))
     ((tested (codes "end") refl, omega arith), tt) in
     let many : length made ≡ calls = length-calls_from keys workers 0 seed calls in
     let few : length lines ≡ 5 + calls + 1 =
@@ -141,5 +158,10 @@ trace_made seed calls keys workers taken =
     lines_of-text lines (right_printed lines right) ∙ ap (λ ls. head_lines calls workers ++ ls ++ codes "end" ∷ []) (same_lines made) in
     subst (λ c. IsTrace (text_of lines) c) (same_content seed calls keys workers)
     (calls_trace (rows_of calls workers) workers made (text_of lines)
-    (record { least_row = omega (arith, taken.least_calls); most_row = omega (arith, taken.most_calls, taken.most_workers); least_worker = taken.least_workers; most_worker = taken.most_workers })
+    (record {
+      least_row = omega (arith, taken.least_calls);
+      most_row = omega (arith, taken.most_calls, taken.most_workers);
+      least_worker = taken.least_workers;
+      most_worker = taken.most_workers;
+    })
     fit (omega (arith, many, taken.most_calls)) (omega (arith, right_size lines right, few, taken.most_calls)) is)

@@ -35,6 +35,7 @@ all_at P (y ∷ ys) (suc k) x h within is = all_at P ys k x h.1 (omega arith) is
 pub rest_is : (seed calls keys workers : ℕ) (c : ℕ × Call) → 1 ≤ workers → Contains (generated_calls seed calls keys workers) c → c.0 ≡ key_in c.1 % workers + 1
 rest_is seed calls keys workers c some found = all_at (IsOwn workers) _ found.0 c (own keys workers 0 seed calls some) found.1 found.2
 
-pub one_is : (seed calls keys workers : ℕ) (c d : ℕ × Call) → 1 ≤ workers → Contains (generated_calls seed calls keys workers) c → Contains (generated_calls seed calls keys workers) d → key_in c.1 ≡ key_in d.1 → c.0 ≡ d.0
+pub one_is : (seed calls keys workers : ℕ) (c d : ℕ × Call) → 1 ≤ workers → Contains (generated_calls seed calls keys workers) c →
+    Contains (generated_calls seed calls keys workers) d → key_in c.1 ≡ key_in d.1 → c.0 ≡ d.0
 one_is seed calls keys workers c d some found other same =
     rest_is seed calls keys workers c some found ∙ ap (λ k. k % workers + 1) same ∙ sym (rest_is seed calls keys workers d some other)

@@ -2,6 +2,7 @@
 -- keys of its own.
 use Rattle.std.specs.Prelude.{ℕ, zero, suc, ◌+◌, ◌-◌, ◌*◌, ◌/◌, ◌%◌, ◌≤◌, ◌==◌, if◌then◌else◌, List, [], ◌∷◌, ◌++◌, map, codes}
 use Rattle.std.specs.Fmt.{decimal}
+use Rattle.flit_words.specs.declared.limits.TheConstants.{MOST_WORKERS}
 use Rattle.flit_model.specs.declared.calls.Call.{Call}
 use Rattle.flit_model.specs.declared.calls.Call.TheVariants.{Insert, Remove, Contains, Get}
 
@@ -93,4 +94,4 @@ pub record AreTaken (seed calls keys workers : ℕ) : Type 0 where
   pub least_keys : 1 ≤ keys
   pub most_keys : keys ≤ 32768
   pub least_workers : 1 ≤ workers
-  pub most_workers : workers ≤ 64
+  pub most_workers : workers ≤ MOST_WORKERS

@@ -1,13 +1,15 @@
--- The trace that the generator's text is.
-use Rattle.std.specs.Prelude.{ℕ, suc, false, None, List, [], ◌∷◌, replicate}
+-- The trace that the generator's text is, and the laws of its calls.
+use Rattle.std.specs.Prelude.{◌≡◌, ℕ, suc, ◌+◌, ◌%◌, ◌≤◌, false, None, List, [], ◌∷◌, replicate, Contains}
 use Rattle.flit_words.specs.declared.layouts.Kind.TheVariants.{Hash}
 use Rattle.flit_words.specs.declared.layouts.Layout.{Layout}
 use Rattle.flit_words.specs.Layouts.{words_of}
+use Rattle.flit_words.specs.declared.limits.TheConstants.{GREATEST_VERSION, MOST_WORKERS}
 use Rattle.flit_model.specs.declared.calls.Call.{Call}
 use Rattle.flit_model.specs.declared.calls.Item.TheVariants as item
 use Rattle.flit_trace.specs.declared.heads.Place.TheVariants.{Adjacent}
 use Rattle.flit_trace.specs.Contents.{Content, ItemLine}
-use Rattle.flit_generator.specs.Generator.{rows_of, generated_calls}
+use Rattle.flit_trace.specs.Grammar.{IsTrace}
+use Rattle.flit_generator.specs.Generator.{rows_of, generated_calls, AreTaken, key_in, generated_text}
 
 -- a hash table of 256 buckets with so many slots
 abbrev pub layout_with : ℕ → ℕ → ℕ → Layout
@@ -17,7 +19,7 @@ layout_with rows workers slots = record {
   rows = rows;
   slots = slots;
   workers = workers;
-  limit = 2147483647;
+  limit = GREATEST_VERSION;
   values = false;
 }
 
@@ -34,9 +36,24 @@ generated_content seed calls keys workers = record {
     place = Adjacent;
   };
   items = lines_from 6 (generated_calls seed calls keys workers);
-  stops = replicate 64 None;
+  stops = replicate MOST_WORKERS None;
   turns = [];
   all_ahead = false;
   ahead = [];
   start = None;
 }
+
+-- the text of the generator is a trace, and this is its content
+abbrev pub MakesTraces : Type 0
+MakesTraces = (seed calls keys workers : ℕ) → AreTaken seed calls keys workers →
+    IsTrace (generated_text seed calls keys workers) (generated_content seed calls keys workers)
+
+-- each call's worker is the rest of its key by the number of workers, plus 1
+abbrev pub TellsWorkers : Type 0
+TellsWorkers = (seed calls keys workers : ℕ) (c : ℕ × Call) → 1 ≤ workers → Contains (generated_calls seed calls keys workers) c →
+    c.0 ≡ key_in c.1 % workers + 1
+
+-- calls on one key are calls of one worker
+abbrev pub SharesNoKey : Type 0
+SharesNoKey = (seed calls keys workers : ℕ) (c d : ℕ × Call) → 1 ≤ workers → Contains (generated_calls seed calls keys workers) c →
+    Contains (generated_calls seed calls keys workers) d → key_in c.1 ≡ key_in d.1 → c.0 ≡ d.0

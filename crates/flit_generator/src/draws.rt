@@ -2,6 +2,7 @@ ghost use Rattle.std.specs.Prelude.{◌≡◌, ◌+◌, ◌*◌, ◌<◌, ◌≤
 ghost use Rattle.flit_generator.specs.Generator.{next_state, drawn, key_of, call_of};
 
 use flit_model::Call;
+use flit_words::MOST_WORKERS;
 
 /// The state behind a state.
 pub fn next_state(state: u64) -> u64
@@ -25,7 +26,7 @@ pub fn drawn(state: u64) -> u32
 pub fn key_of(keys: u32, workers: u32, worker: u32, draw: u32) -> u32
     requires least_keys { 1 ≤ keys }
     requires most_keys { keys ≤ 32768 }
-    requires most_workers { workers ≤ 64 }
+    requires most_workers { workers ≤ MOST_WORKERS }
     requires worker { 1 ≤ worker }
     requires within { worker ≤ workers }
     ensures { result ≡ key_of keys workers worker draw }

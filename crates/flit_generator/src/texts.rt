@@ -4,7 +4,7 @@ ghost use Rattle.flit_generator.specs.Writing.{Appends, AppendsLine};
 
 use crate::draws::{call_of, drawn, key_of, next_state};
 use flit_model::Call;
-use flit_words::NoMemory;
+use flit_words::{MOST_WORKERS, NoMemory};
 use std::alloc::{AllocError, Global};
 
 /// The most bytes of the line of a call, with its end, as `64 contains 2097151`.
@@ -26,7 +26,7 @@ fn write_call(out: &mut String, worker: u32, call: Call) -> Result<(), AllocErro
 
 fn write_head(out: &mut String, calls: u32, workers: u32) -> Result<(), AllocError>
     requires calls { calls ≤ 500000 }
-    requires workers { workers ≤ 64 }
+    requires workers { workers ≤ MOST_WORKERS }
     ensures { OnOk result (Appends out.old out.new (text_of (head_lines calls workers))) }
 {
     let rows = 2 * (calls + workers);
@@ -47,8 +47,9 @@ fn write_calls(
     requires least_keys { 1 ≤ keys }
     requires most_keys { keys ≤ 32768 }
     requires least_workers { 1 ≤ workers }
-    requires most_workers { workers ≤ 64 }
-    ensures { OnOk result (Appends out.old out.new (text_of (call_lines (generated_calls seed calls keys workers)))) }
+    requires most_workers { workers ≤ MOST_WORKERS }
+    ensures { OnOk result (Appends out.old out.new
+        (text_of (call_lines (generated_calls seed calls keys workers)))) }
 {
     let mut state = u64::from(seed);
     for number in 0..calls {
@@ -65,7 +66,7 @@ fn write_calls(
 /// The text of the trace that the generator makes from the seed: `calls` calls by `workers` workers, who have `keys` keys
 /// each.
 ///
-/// The seed is at most 2147483647; there are 1 to 500000 calls, 1 to 32768 keys and 1 to 64 workers.
+/// The seed is at most 2147483647; there are 1 to 500000 calls, 1 to 32768 keys and 1 to `MOST_WORKERS` workers.
 ///
 /// # Errors
 /// `NoMemory` where there is no memory for the text.
@@ -82,7 +83,7 @@ pub fn generator_text(
     requires least_keys { 1 ≤ keys }
     requires most_keys { keys ≤ 32768 }
     requires least_workers { 1 ≤ workers }
-    requires most_workers { workers ≤ 64 }
+    requires most_workers { workers ≤ MOST_WORKERS }
     ensures { IfOk result (λ text. text.items ≡ generated_text seed calls keys workers) }
 {
     let mut out = String::with_capacity(alloc, CALL_LINE * calls as usize + OTHER_LINES)?;

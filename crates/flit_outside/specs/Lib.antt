@@ -1,4 +1,3 @@
-pub mod CommandWords
 pub mod MemSink
 pub mod MemSource
 pub mod Outside

@@ -20,3 +20,9 @@ pub record Appends (input : List ℕ) (n : ℕ) (before after : List ℕ) (left 
   pub within : n ≤ length input
   pub behind : after ≡ before ++ take n input
   pub rest : left ≡ Some (drop n input)
+
+-- at most so many bytes at the front are gone, and the others are left
+pub record LosesFront (most : ℕ) (bytes : List ℕ) (left : Option (List ℕ)) : Type 0 where
+  pub count : ℕ
+  pub within : count ≤ most
+  pub rest : left ≡ Some (drop count bytes)

@@ -1,4 +1,4 @@
-ghost use Rattle.std.specs.Prelude.{◌≡◌, ℕ, List, [], length, take, ◌++◌, ◌<◌, ◌≤◌, IfOk, OnErr, IfSome, Option};
+ghost use Rattle.std.specs.Prelude.{◌≡◌, ℕ, List, [], length, take, ◌++◌, ◌<◌, ◌≤◌, IfOk, OnOk, OnErr, IfSome, Option};
 ghost use Rattle.flit_outside.specs.Outside.{Rose, TakesFront};
 
 use std::error::Error;
@@ -21,7 +21,7 @@ pub trait Source {
     // The bytes that are not yet read, where the source tells them.
     ghost left: { Self → Option (List ℕ) };
 
-    // How many reads have failed, up to 2^64 - 1.
+    // How many reads have failed, up to 2^64 - 1: it rises at each that fails, and at no other.
     ghost faults: { Self → ℕ };
 
     /// Puts bytes into the front of `into` and answers how many, at most the length of `into`.
@@ -32,6 +32,7 @@ pub trait Source {
     fn read(&mut self, into: &mut [u8]) -> Result<usize, Failed>
         ensures failed { OnErr result (Rose (faults self.old) (faults self.new)
             × (left self.new ≡ left self.old)) }
+        ensures steady { OnOk result (faults self.new ≡ faults self.old) }
         ensures never_falls { faults self.old ≤ faults self.new }
         ensures within { IfOk result (λ n. n ≤ length into.old) }
         ensures told { IfSome (left self.old) (λ bytes. IfOk result (λ n.
@@ -45,7 +46,7 @@ pub trait Sink {
     // The bytes taken so far, where the sink tells them.
     ghost taken: { Self → Option (List ℕ) };
 
-    // How many writes have failed, up to 2^64 - 1.
+    // How many writes have failed, up to 2^64 - 1: it rises at each that fails, and at no other.
     ghost faults: { Self → ℕ };
 
     /// Takes bytes from the front of `piece` and answers how many, at least 1 unless `piece` is
@@ -56,6 +57,7 @@ pub trait Sink {
     fn write(&mut self, piece: &[u8]) -> Result<usize, Failed>
         ensures failed { OnErr result (Rose (faults self.old) (faults self.new)
             × (taken self.new ≡ taken self.old)) }
+        ensures steady { OnOk result (faults self.new ≡ faults self.old) }
         ensures never_falls { faults self.old ≤ faults self.new }
         ensures within { IfOk result (λ n. n ≤ length piece.now) }
         ensures goes_on { 0 < length piece.now → IfOk result (λ n. 0 < n) }

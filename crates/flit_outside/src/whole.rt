@@ -1,5 +1,5 @@
-ghost use Rattle.std.specs.Prelude.{◌≡◌, ℕ, ◌+◌, ◌<◌, ◌≤◌, [], length, take, drop, ◌++◌, Some, IfSome, IfOk, OnOk, OnErr, vec_len};
-ghost use Rattle.flit_outside.specs.Outside.{Rose, Appends};
+ghost use Rattle.std.specs.Prelude.{◌≡◌, ◌≢◌, ℕ, ◌+◌, ◌<◌, ◌≤◌, [], length, take, drop, ◌++◌, Some, IfSome, IfOk, OnOk, OnErr, vec_len};
+ghost use Rattle.flit_outside.specs.Outside.{Rose, Appends, LosesFront};
 ghost use Rattle.flit_outside.specs.declared.whole.ReadError.TheVariants.{Fault, NoMemory};
 
 use crate::outside::{Failed, Sink, Source};
@@ -55,8 +55,10 @@ fn read_behind<S: Source>(
         n ≡ 0 → 0 < length room.old → input ≡ [])) }
     ensures fault { result ≡ Err ReadError.Fault
         → Rose (S.faults source.old) (S.faults source.new) }
+    ensures steady { result ≢ Err ReadError.Fault
+        → S.faults source.new ≡ S.faults source.old }
     ensures lost { OnErr result (IfSome (S.left source.old) (λ input.
-        (n : ℕ) × (S.left source.new ≡ Some (drop n input)))) }
+        LosesFront (length room.old) input (S.left source.new))) }
     ensures never_falls { S.faults source.old ≤ S.faults source.new }
 {
     let count = source.read(room)?;
@@ -64,11 +66,11 @@ fn read_behind<S: Source>(
     Ok(count)
 }
 
-/// The bytes of the source up to its end, but at most `limit` of them.
+/// The bytes of the source up to its end, but at most `limit` of them. No more of them are read.
 ///
 /// # Errors
-/// `Fault` where a read failed, `NoMemory` where there was no memory for the bytes. What was read
-/// until then is lost.
+/// `Fault` where a read failed, which is not tried again; `NoMemory` where there was no memory for
+/// the bytes. What was read until then is lost.
 pub fn read_all<S: Source>(
     alloc: Global,
     source: &mut S,
@@ -81,8 +83,10 @@ pub fn read_all<S: Source>(
     ensures within { IfOk result (λ bytes. vec_len bytes ≤ limit) }
     ensures fault { result ≡ Err ReadError.Fault
         → Rose (S.faults source.old) (S.faults source.new) }
+    ensures steady { result ≢ Err ReadError.Fault
+        → S.faults source.new ≡ S.faults source.old }
     ensures lost { OnErr result (IfSome (S.left source.old) (λ input.
-        (n : ℕ) × (S.left source.new ≡ Some (drop n input)))) }
+        LosesFront limit input (S.left source.new))) }
     ensures never_falls { S.faults source.old ≤ S.faults source.new }
 {
     let mut bytes = Vec::new(alloc);
@@ -100,11 +104,13 @@ pub fn read_all<S: Source>(
 /// Writes all of the bytes. It makes no write where there are none.
 ///
 /// # Errors
-/// `Failed` where a write failed. The sink has taken a proper front of the bytes then.
+/// `Failed` where a write failed, which is not tried again. The sink has taken a proper front of the
+/// bytes then.
 pub fn write_all<K: Sink>(sink: &mut K, bytes: &[u8]) -> Result<(), Failed>
     ensures ok { OnOk result (IfSome (K.taken sink.old) (λ before.
         K.taken sink.new ≡ Some (before ++ bytes.now))) }
     ensures fault { OnErr result (Rose (K.faults sink.old) (K.faults sink.new)) }
+    ensures steady { OnOk result (K.faults sink.new ≡ K.faults sink.old) }
     ensures front { OnErr result (IfSome (K.taken sink.old) (λ before.
         (n : ℕ) × (n < length bytes.now) × (K.taken sink.new ≡ Some (before ++ take n bytes.now)))) }
     ensures nothing { length bytes.now ≡ 0 → sink.new ≡ sink.old }

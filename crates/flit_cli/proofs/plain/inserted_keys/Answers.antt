@@ -5,5 +5,6 @@ use Rattle.flit_cli.proofs.plain.inserted_keys.Goals as goal
 pub returns-in_default-clause-err : goal.returns-in_default-clause-err
 returns-in_default-clause-err c = (
   refl,
-  other_item c.args.script c.loop-item.yielded c.loop-item.item-iterator c.next.new.self c.in-Some.field-0-0 c.in-Some.item c.loop-item.invariant.rest c.in-Some.ensures.steps c.in_default.ensures.none,
+  other_item c.args.script c.loop-item.yielded c.loop-item.item-iterator c.next.new.self c.in-Some.field-0-0 c.in-Some.item c.loop-item.invariant.rest
+      c.in-Some.ensures.steps c.in_default.ensures.none,
 )

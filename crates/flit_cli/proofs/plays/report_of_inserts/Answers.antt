@@ -8,8 +8,9 @@ loop-key-init c = played_none c.args.rows c.args.keys.now _ _ c.new-map.ensures.
 pub loop-key-preserved : goal.loop-key-preserved
 loop-key-preserved c =
     rw c.in_ok-push.ensures.items
-    (played_more c.args.rows c.args.keys.now c.loop-key.key-index _ c.in_ok-reply.reply _ _ _ c.loop-key.invariant (omega arith) refl (c.in_ok-reply.ensures.reply c.loop-key.invariant.map c.loop-key.invariant.same)
-    (c.in_ok-reply.ensures.entries c.loop-key.invariant.map c.loop-key.invariant.same))
+    (played_more c.args.rows c.args.keys.now c.loop-key.key-index _ c.in_ok-reply.reply _ _ _ c.loop-key.invariant (omega arith) refl
+    (c.in_ok-reply.ensures c.loop-key.invariant.map c.loop-key.invariant.same).0
+    (c.in_ok-reply.ensures c.loop-key.invariant.map c.loop-key.invariant.same).1)
 
 pub overflow_cast-result : goal.overflow_cast-result
 overflow_cast-result c = omega (arith, c.len.ensures.len, played_fits _ _ _ _ _ c.loop-key.invariant)

@@ -7,6 +7,6 @@ pub loop-written-preserved : goal.loop-written-preserved
 loop-written-preserved g c = record {
   within = search rules;
   so_far = IfSome-taken_more _ _ _ _ _ _ _ (take_rest c.args.bytes.now c.loop-written.written) c.loop-written.invariant.so_far c.in_ok-written.ensures.told;
-  never_falls = search rules;
+  steady = search rules;
   nothing = search rules;
 }

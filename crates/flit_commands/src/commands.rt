@@ -1,11 +1,10 @@
 ghost use Rattle.std.specs.Prelude.{◌≡◌, ◌≢◌, ◌↔◌, ℕ, ◌≤◌, Some, slice_get, IfSome, IfNone, IsTrue};
 ghost use Rattle.std.specs.Fmt.{decimal};
-ghost use Rattle.flit_outside.specs.declared.commands.Making.{Making};
-ghost use Rattle.flit_outside.specs.declared.commands.Command.{Command};
-ghost use Rattle.flit_outside.specs.CommandWords.{said_by, make_words, IsInRange, IsCommand};
+ghost use Rattle.flit_commands.specs.declared.commands.Command.{Command};
+ghost use Rattle.flit_commands.specs.CommandWords.{said_by, make_words, IsInRange, IsCommand, NamesNoMaking, NamesNoCommand};
 
 use crate::word_list::Words;
-use flit_words::number_of;
+use flit_words::{MOST_WORKERS, number_of};
 
 #[cfg(test)]
 mod tests;
@@ -64,8 +63,10 @@ pub enum Command {
 
 /// The number that the word at a place writes, from `least` to `most`. None comes where there is no such word.
 fn number_at(words: &Words, place: usize, least: u32, most: u32) -> Option<u32>
-    ensures some { IfSome result (λ n. (least ≤ n) × (n ≤ most) × (slice_get words.now place ≡ Some (decimal n))) }
-    ensures none { IfNone result ((n : ℕ) → least ≤ n → n ≤ most → slice_get words.now place ≢ Some (decimal n)) }
+    ensures some { IfSome result (λ n.
+        (least ≤ n) × (n ≤ most) × (slice_get words.now place ≡ Some (decimal n))) }
+    ensures none { IfNone result ((n : ℕ) → least ≤ n → n ≤ most
+        → slice_get words.now place ≢ Some (decimal n)) }
 {
     let word = words.get(place)?;
     let number = number_of(word.as_bytes())?;
@@ -80,7 +81,7 @@ fn number_at(words: &Words, place: usize, least: u32, most: u32) -> Option<u32>
 /// comes where they are other words. It takes no memory.
 pub fn making_of(words: &Words) -> Option<Making>
     ensures some { IfSome result (λ making. IsInRange making × (words.now ≡ make_words making)) }
-    ensures none { IfNone result ((making : Making) → IsInRange making → words.now ≢ make_words making) }
+    ensures none { IfNone result (NamesNoMaking words.now) }
 {
     let name = words.get(0)?;
     if words.len() != 5 || name != "make" {
@@ -90,14 +91,14 @@ pub fn making_of(words: &Words) -> Option<Making>
         seed: number_at(words, 1, 0, 2147483647)?,
         calls: number_at(words, 2, 1, 500000)?,
         keys: number_at(words, 3, 1, 32768)?,
-        workers: number_at(words, 4, 1, 64)?,
+        workers: number_at(words, 4, 1, MOST_WORKERS)?,
     })
 }
 
 /// The command that the words name. None comes where no command has these words. It takes no memory.
 pub fn command_of(words: &Words) -> Option<Command>
     ensures some { IfSome result (λ command. IsCommand command × (words.now ≡ said_by command)) }
-    ensures none { IfNone result ((command : Command) → IsCommand command → words.now ≢ said_by command) }
+    ensures none { IfNone result (NamesNoCommand words.now) }
 {
     if words.is(&["run"]) {
         Some(Command::Run(None))

@@ -91,3 +91,17 @@ fn other_words_name_no_command(rt: HostRuntime) -> Result<(), Fail> {
     }
     Ok(())
 }
+
+#[test]
+fn words_are_kept_in_order(rt: HostRuntime) -> Result<(), Fail> {
+    let mut words = Words::new(rt.alloc());
+    assert!(rt; words.is(&[]));
+    words.push("step")?;
+    words.push("--image")?;
+    assert!(rt; words.is(&["step", "--image"]));
+    assert!(rt; !words.is(&["--image", "step"]));
+    assert!(rt; !words.is(&["step"]));
+    assert_eq!(rt; words.get(1), Some("--image"));
+    assert_eq!(rt; words.get(2), None);
+    Ok(())
+}

@@ -1,13 +1,14 @@
 -- The lists of words that a command line may have behind the program's name, and the command that each of them names.
-use Rattle.std.specs.Prelude.{ℕ, ◌≤◌, List, [], ◌∷◌, Some, None, codes}
+use Rattle.std.specs.Prelude.{◌≢◌, ℕ, ◌≤◌, List, [], ◌∷◌, Some, None, codes}
 use Rattle.std.specs.Fmt.{decimal}
-use Rattle.flit_outside.specs.declared.commands.RunOption.{RunOption}
-use Rattle.flit_outside.specs.declared.commands.RunOption.TheVariants.{Summary as Run_summary, Image as Run_image}
-use Rattle.flit_outside.specs.declared.commands.StepOption.{StepOption}
-use Rattle.flit_outside.specs.declared.commands.StepOption.TheVariants.{Events, Summary, Image, Detect}
-use Rattle.flit_outside.specs.declared.commands.Making.{Making}
-use Rattle.flit_outside.specs.declared.commands.Command.{Command}
-use Rattle.flit_outside.specs.declared.commands.Command.TheVariants.{Run, Step, Recover, Make, Queue, Check}
+use Rattle.flit_words.specs.declared.limits.TheConstants.{MOST_WORKERS}
+use Rattle.flit_commands.specs.declared.commands.RunOption.{RunOption}
+use Rattle.flit_commands.specs.declared.commands.RunOption.TheVariants.{Summary as Run_summary, Image as Run_image}
+use Rattle.flit_commands.specs.declared.commands.StepOption.{StepOption}
+use Rattle.flit_commands.specs.declared.commands.StepOption.TheVariants.{Events, Summary, Image, Detect}
+use Rattle.flit_commands.specs.declared.commands.Making.{Making}
+use Rattle.flit_commands.specs.declared.commands.Command.{Command}
+use Rattle.flit_commands.specs.declared.commands.Command.TheVariants.{Run, Step, Recover, Make, Queue, Check}
 
 -- the word of an option of `run`
 abbrev pub run_option : RunOption → List ℕ
@@ -44,7 +45,7 @@ pub record IsInRange (making : Making) : Type 0 where
   pub least_keys : 1 ≤ making.keys
   pub most_keys : making.keys ≤ 32768
   pub least_workers : 1 ≤ making.workers
-  pub most_workers : making.workers ≤ 64
+  pub most_workers : making.workers ≤ MOST_WORKERS
 
 -- the command is one that words can name: the numbers of `make` are in range
 abbrev pub IsCommand : Command → Type 0
@@ -54,3 +55,11 @@ IsCommand Recover = Unit {0}
 IsCommand (Make making) = IsInRange making
 IsCommand Queue = Unit {0}
 IsCommand Check = Unit {0}
+
+-- the words are not those of `make` with numbers in their ranges
+abbrev pub NamesNoMaking : List (List ℕ) → Type 0
+NamesNoMaking words = (making : Making) → IsInRange making → words ≢ make_words making
+
+-- the words name no command
+abbrev pub NamesNoCommand : List (List ℕ) → Type 0
+NamesNoCommand words = (command : Command) → IsCommand command → words ≢ said_by command

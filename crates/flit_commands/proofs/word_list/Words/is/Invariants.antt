@@ -1,5 +1,5 @@
 use Rattle.std.proofs.Common.{◌≡◌, length, take, map}
-use Rattle.flit_outside.proofs.word_list.Words.is.Given as goal
+use Rattle.flit_commands.proofs.word_list.Words.is.Given as goal
 
 -- the words so far are the same
 abbrev pub invariant-loop-given : goal.invariant-loop-given

@@ -4,11 +4,11 @@ use Rattle.std.specs.Str.{bytes_eq}
 use Rattle.std.specs.Str.Parse.{digits_value}
 use Rattle.std.proofs.lemmas.Slice.Eq.{bytes_eq-Decides}
 use Rattle.std.proofs.lemmas.Fmt.{decimal_is_IsNumeral}
-use Rattle.flit_outside.specs.declared.commands.RunOption.TheVariants.{Summary as Run_summary, Image as Run_image}
-use Rattle.flit_outside.specs.declared.commands.StepOption.TheVariants.{Events, Summary, Image, Detect}
-use Rattle.flit_outside.specs.declared.commands.Command.{Command}
-use Rattle.flit_outside.specs.declared.commands.Command.TheVariants.{Run, Step, Recover, Make, Queue, Check}
-use Rattle.flit_outside.specs.CommandWords.{said_by, IsCommand}
+use Rattle.flit_commands.specs.declared.commands.RunOption.TheVariants.{Summary as Run_summary, Image as Run_image}
+use Rattle.flit_commands.specs.declared.commands.StepOption.TheVariants.{Events, Summary, Image, Detect}
+use Rattle.flit_commands.specs.declared.commands.Command.{Command}
+use Rattle.flit_commands.specs.declared.commands.Command.TheVariants.{Run, Step, Recover, Make, Queue, Check}
+use Rattle.flit_commands.specs.CommandWords.{said_by, IsCommand}
 
 -- the command that one word names, or a word and its option
 alone : List ℕ → Option Command
@@ -77,7 +77,8 @@ pub same_word : (x y : List ℕ) (place : Option (List ℕ)) → Some x ≡ plac
 same_word x y place has said = cc
 
 -- five words are those at its five places
-pub five_words : (words : List (List ℕ)) (a b c d e : List ℕ) → length words ≡ 5 → slice_get words 0 ≡ Some a → slice_get words 1 ≡ Some b → slice_get words 2 ≡ Some c → slice_get words 3 ≡ Some d → slice_get words 4 ≡ Some e → words ≡ a ∷ b ∷ c ∷ d ∷ e ∷ []
+pub five_words : (words : List (List ℕ)) (a b c d e : List ℕ) → length words ≡ 5 → slice_get words 0 ≡ Some a → slice_get words 1 ≡ Some b →
+    slice_get words 2 ≡ Some c → slice_get words 3 ≡ Some d → slice_get words 4 ≡ Some e → words ≡ a ∷ b ∷ c ∷ d ∷ e ∷ []
 five_words (v ∷ w ∷ x ∷ y ∷ z ∷ []) a b c d e l at_a at_b at_c at_d at_e = cc
 five_words [] a b c d e l at_a at_b at_c at_d at_e = absurd (omega (arith, l))
 five_words (v ∷ []) a b c d e l at_a at_b at_c at_d at_e = absurd (omega (arith, l))

@@ -1,7 +1,7 @@
 use Rattle.std.proofs.Common.{◌≡◌, ◌<◌, ◌^◌, decimal, arith, sym, ◌∙◌}
 use Rattle.std.proofs.lemmas.Fmt.{decimal_injective}
-use Rattle.flit_outside.proofs.CommandLaws.{same_word}
-use Rattle.flit_outside.proofs.commands.number_at.Goals as goal
+use Rattle.flit_commands.proofs.CommandLaws.{same_word}
+use Rattle.flit_commands.proofs.commands.number_at.Goals as goal
 
 pub returns-else-from-number-clause-none : goal.returns-else-from-number-clause-none
 returns-else-from-number-clause-none c n least most e =

@@ -1,6 +1,6 @@
 use Rattle.std.proofs.Common.{◌≡◌, Some, slice_get, codes, arith, sym, ap, ◌∙◌}
-use Rattle.flit_outside.proofs.CommandLaws.{five_words, same_text}
-use Rattle.flit_outside.proofs.commands.making_of.Goals as goal
+use Rattle.flit_commands.proofs.CommandLaws.{five_words, same_text}
+use Rattle.flit_commands.proofs.commands.making_of.Goals as goal
 
 pub returns-clause-some : goal.returns-clause-some
 returns-clause-some c =
