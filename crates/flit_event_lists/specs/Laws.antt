@@ -1,5 +1,6 @@
 -- What holds of the events of each machine, from its start to its end.
 use Rattle.std.specs.Prelude.{◌≡◌, ◌↔◌, ℕ, ◌+◌, ◌*◌, ◌<◌, ◌≤◌, List, [], length, IsSome}
+use Rattle.flit_words.specs.declared.limits.TheConstants.{MOST_QUEUED}
 use Rattle.flit_words.specs.Words.{version_of, bare_of}
 use Rattle.flit_place.specs.Tags.{Place, IsPlacement, shown}
 use Rattle.flit_pv.specs.declared.hands.Hand.{Hand}
@@ -126,15 +127,15 @@ pub record WornWhere : Type 0 where
   pub store : (hand : Hand) (first : ℕ) (values : List ℕ) (limit : ℕ) (list : List AnsweredEvent) (after : Hand) (how : Stored) →
       IsStoreList hand first values limit list after how → (how ≡ All_stored) ↔ AllLoadsBelow limit list
 
--- A queue of at most 16 pairs has at most 16 pairs again at the end; a fence, and an exchange that isn't worn, leaves
+-- A queue of at most `MOST_QUEUED` pairs has as few again at the end; a fence, and an exchange that isn't worn, leaves
 -- none.
 pub record QueueWithin : Type 0 where
   pub load : (p : Place) (hand : Hand) (word : ℕ) (list : List AnsweredEvent) (after : Hand) (raw : ℕ) → IsLoadList p hand word list after raw →
-      length hand.queue ≤ 16 → length after.queue ≤ 16
+      length hand.queue ≤ MOST_QUEUED → length after.queue ≤ MOST_QUEUED
   pub confirm : (p : Place) (hand : Hand) (word raw : ℕ) (list : List AnsweredEvent) (after : Hand) → IsConfirmList p hand word raw list after →
-      length hand.queue ≤ 16 → length after.queue ≤ 16
+      length hand.queue ≤ MOST_QUEUED → length after.queue ≤ MOST_QUEUED
   pub store : (hand : Hand) (first : ℕ) (values : List ℕ) (limit : ℕ) (list : List AnsweredEvent) (after : Hand) (how : Stored) →
-      IsStoreList hand first values limit list after how → length hand.queue ≤ 16 → length after.queue ≤ 16
+      IsStoreList hand first values limit list after how → length hand.queue ≤ MOST_QUEUED → length after.queue ≤ MOST_QUEUED
   pub exchange : (p : Place) (hand : Hand) (word old value limit : ℕ) (list : List AnsweredEvent) (after : Hand) (how : Exchanged) →
       IsExchangeList p hand word old value limit list after how → version_of old < limit → after.queue ≡ []
   pub fence : (hand : Hand) (list : List AnsweredEvent) (after : Hand) → IsFenceList hand list after → after.queue ≡ []
@@ -154,14 +155,14 @@ pub record TallyAddsUp : Type 0 where
   pub evict : (hand : Hand) (word : ℕ) (list : List AnsweredEvent) (after : Hand) → IsEvictList hand word list after → AddsUp hand.tally →
       AddsUp after.tally
 
--- How many events a machine makes at most from its start to its end, over a queue of at most 16 pairs.
+-- How many events a machine makes at most from its start to its end, over a queue of at most `MOST_QUEUED` pairs.
 pub record EventsWithin : Type 0 where
   pub load : (p : Place) (hand : Hand) (word : ℕ) (list : List AnsweredEvent) (after : Hand) (raw : ℕ) → IsLoadList p hand word list after raw →
-      length hand.queue ≤ 16 → length list ≤ 18
+      length hand.queue ≤ MOST_QUEUED → length list ≤ MOST_QUEUED + 2
   pub confirm : (p : Place) (hand : Hand) (word raw : ℕ) (list : List AnsweredEvent) (after : Hand) → IsConfirmList p hand word raw list after →
-      length hand.queue ≤ 16 → length list ≤ 17
+      length hand.queue ≤ MOST_QUEUED → length list ≤ MOST_QUEUED + 1
   pub exchange : (p : Place) (hand : Hand) (word old value limit : ℕ) (list : List AnsweredEvent) (after : Hand) (how : Exchanged) →
       IsExchangeList p hand word old value limit list after how → length list ≤ length hand.queue + 4
   pub store : (hand : Hand) (first : ℕ) (values : List ℕ) (limit : ℕ) (list : List AnsweredEvent) (after : Hand) (how : Stored) →
-      IsStoreList hand first values limit list after how → length values ≤ 16 → length hand.queue ≤ 16 → length list ≤ 2 * length values + 16
+      IsStoreList hand first values limit list after how → length values ≤ MOST_QUEUED → length hand.queue ≤ MOST_QUEUED → length list ≤ 2 * length values + 16
   pub fence : (hand : Hand) (list : List AnsweredEvent) (after : Hand) → IsFenceList hand list after → length list ≡ length hand.queue

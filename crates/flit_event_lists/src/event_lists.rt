@@ -83,7 +83,7 @@ pub fn worn_where()
     ensures { WornWhere }
 {}
 
-/// A queue of at most 16 pairs has at most 16 pairs again at the end; a fence, and an exchange that isn't worn, leaves
+/// A queue of at most `MOST_QUEUED` pairs has as few again at the end; a fence, and an exchange that isn't worn, leaves
 /// none.
 pub fn queue_within()
     ensures { QueueWithin }
@@ -95,7 +95,7 @@ pub fn tally_adds_up()
     ensures { TallyAddsUp }
 {}
 
-/// How many events a machine makes at most from its start to its end, over a queue of at most 16 pairs.
+/// How many events a machine makes at most from its start to its end, over a queue of at most `MOST_QUEUED` pairs.
 pub fn events_within()
     ensures { EventsWithin }
 {}

@@ -1,17 +1,19 @@
 -- What holds of every run of the machines of the P-V Interface.
-use Rattle.std.specs.Prelude.{◌≡◌, ◌≢◌, ◌⊎◌, ℕ, ◌+◌, ◌-◌, ◌<◌, ◌≤◌, ◌^◌, Bool, false, List, Some, [], ◌∷◌, length, count_by, Contains}
+use Rattle.std.specs.Prelude.{◌≡◌, ◌≢◌, ◌⊎◌, ℕ, ◌+◌, ◌-◌, ◌<◌, ◌≤◌, ◌^◌, suc, Bool, false, List, Some, None, [], ◌∷◌, ◌++◌, length, count_by, Contains}
 use Rattle.std.specs.List.{AllByRecursion}
 use Rattle.flit_words.specs.Words.{version_of, is_tagged, bare_of}
 use Rattle.flit_model.specs.States.{State, word_at, shadow_at, count_at, IsPersistent}
 use Rattle.flit_model.specs.declared.events.Event.TheVariants.{Load, Exchange, Store}
 use Rattle.flit_place.specs.Tags.{Place}
 use Rattle.flit_place.specs.Covers.{holds_up, Shows}
+use Rattle.flit_pv.specs.declared.hands.Hand.{Hand}
 use Rattle.flit_pv.specs.Loads.{HeldLoad, load_asked}
+use Rattle.flit_pv.specs.Confirms.{HeldConfirm}
 use Rattle.flit_pv.specs.Exchanges.{HeldExchange, exchange_asked}
 use Rattle.flit_pv.specs.declared.exchanges.Exchanging.TheVariants.{Withdraws}
 use Rattle.flit_pv.specs.Stores.{HeldStore, store_asked}
-use Rattle.flit_runs.specs.Workings.{Loads, Exchanges, Stores, dependency, gains}
-use Rattle.flit_runs.specs.Worlds.{Actor, World, Step, Execution, IsFreshWorld, IsFreshActor, IsNobodys, writings}
+use Rattle.flit_runs.specs.Workings.{Idles, Loads, Confirms, Exchanges, Stores, Task, asks, leaves as leaves_hand, writing_at, confirms, dependency, gains}
+use Rattle.flit_runs.specs.Worlds.{Actor, World, world_of, begun, Step, Execution, IsFreshWorld, IsFreshActor, IsNobodys, writings}
 use Rattle.flit_runs.specs.Soundness.{IsSound, IsStored, owed}
 use Rattle.flit_runs.specs.Rules.{IsDurable, KeepsRule, KeepsWords, AsksAllowed, LoadsPersistent, ConfirmsPersistent, ConfirmedPersistent, LoadsSettled, IsAccounted}
 use Rattle.flit_runs.specs.Witnesses.{beside}
@@ -24,6 +26,21 @@ pub record WorldsAreSound : Type 0 where
   pub runs : (p : Place) (vs : ℕ → Bool) (first last : World) → IsFreshWorld p first → Execution p vs first last → IsSound p vs last
   pub joins : (p : Place) (vs : ℕ → Bool) (s : State) (me : Actor) (others : List Actor) → IsFreshActor me → length others + 1 < 2 ^ 64 - 1 →
       IsSound p vs (record { state = s; workers = others }) → IsSound p vs (record { state = s; workers = me ∷ others })
+
+-- A sound world stays sound when a worker that has no exchange under way rests with a hand of the queue that it owes; when
+-- a worker whose machine asks nothing more rests with the hand that the machine leaves, and depends on what it confirmed;
+-- when a worker is hired that has done nothing; and when stretches of the list of workers change places.
+pub record WorldsStaySound : Type 0 where
+  pub rests : (p : Place) (vs : ℕ → Bool) (s : State) (before : List Actor) (me : Actor) (behind : List Actor) (hand : Hand) → writing_at me.at ≡ None →
+      owed me.at ≡ hand.queue → IsSound p vs (world_of s before me behind) → IsSound p vs (world_of s before (record me { at = Idles hand }) behind)
+  pub leaves : (p : Place) (vs : ℕ → Bool) (s : State) (before : List Actor) (me : Actor) (behind : List Actor) → asks p me.at ≡ None →
+      IsSound p vs (world_of s before me behind) →
+      IsSound p vs (world_of s before (record me { at = Idles (leaves_hand me.at); needs = confirms me.at ++ me.needs }) behind)
+  pub hires : (p : Place) (vs : ℕ → Bool) (s : State) (workers : List Actor) (hand : Hand) → hand.queue ≡ [] → suc (length workers) < 2 ^ 64 - 1 →
+      IsSound p vs (record { state = s; workers = workers }) →
+      IsSound p vs (record { state = s; workers = (record { at = Idles hand; needs = []; seen = []; private = [] }) ∷ workers })
+  pub order : (p : Place) (vs : ℕ → Bool) (s : State) (a x y b : List Actor) → IsSound p vs (record { state = s; workers = a ++ (x ++ (y ++ b)) }) →
+      IsSound p vs (record { state = s; workers = a ++ (y ++ (x ++ b)) })
 
 -- The P-V rule: all that a worker depends on is persistent at each Exchange of its PExchange, the second try and the
 -- clearing one among them, and where its Fence or its Complete has ended. Then its private words are persistent too.
@@ -82,7 +99,8 @@ pub record VersionsNeverFall : Type 0 where
       (bare_of (word_at w.state word) ≤ shadow_at v.state word) ⊎ (bare_of (word_at w.state word) ≡ bare_of (word_at v.state word))
 
 -- What a worker comes to depend on by an event: the version that its PLoad has loaded, that its PrivateStore has stored,
--- or that its PExchange has written.
+-- or that its PExchange has written; and, as it starts its next machine, the version that its Confirm has confirmed.
+-- By the start of a machine after any other it comes to depend on nothing more.
 pub record Dependencies : Type 0 where
   pub loaded : (p : Place) (m : HeldLoad) (word told : ℕ) → load_asked m ≡ Some (Load word) →
       gains p (Loads m) told ≡ dependency word (version_of told) ∷ []
@@ -90,6 +108,8 @@ pub record Dependencies : Type 0 where
       gains p (Stores m) told ≡ dependency word (version_of new) ∷ []
   pub written : (p : Place) (m : HeldExchange) (word old new : ℕ) → exchange_asked p m ≡ Some (Exchange word old new) → m.at ≢ Withdraws →
       gains p (Exchanges m) old ≡ dependency word (version_of new) ∷ []
+  pub confirmed : (me : Actor) (m : HeldConfirm) (task : Task) → me.at ≡ Confirms m → (begun task me).needs ≡ dependency m.word (version_of m.raw) ∷ me.needs
+  pub started : (me : Actor) (task : Task) → ((m : HeldConfirm) → me.at ≡ Confirms m → ⊥) → (begun task me).needs ≡ me.needs
 
 -- The rule isn't empty: there is a run, of a word with a slot beside it and two workers, after which one of them depends
 -- on a version that isn't persistent; its next exchange is still to come.
