@@ -17,6 +17,7 @@ use Rattle.flit_crew.specs.Heaps.{Heap, IsOpen, IsMine, IsShut, AreOld, HaveStay
 use Rattle.flit_crew.specs.Anatomies.{own_in, deed}
 use Rattle.flit_crew.specs.Crews.{Crew, Acts, AllAct, IsDoing, who_of}
 use Rattle.flit_crew.specs.Obligations.{Keeps}
+use Rattle.flit_crew.proofs.Knowing.{HasRisen, facts_last}
 use Rattle.flit_crew.proofs.Updating.{Follows, settled_longer, update_lasts}
 
 pub through : (a b c : ℕ) → a ≤ b → b ≤ c → a ≤ c
@@ -60,6 +61,7 @@ module _ {G Op : Type 0} (c : Crew G Op) (l : Layout) (p : Place) (free : List �
     pub later : c.later who h k
     pub follows : Follows who h k
     pub given : (row : ℕ) → Contains h.given row → Contains k.given row
+    pub risen : HasRisen c l p free h k
 
   pub shut_of : (h : Heap G) (u : U) (g : Actor) → Acts c l p free h u g → AllByRecursion (IsShut l free h) g.private
   shut_of h u g m = all_weaker (IsMine l free h (own_in c.anatomy u.doing)) (IsShut l free h) (λ w k. k.shut) g.private m.mine
@@ -89,7 +91,8 @@ module _ {G Op : Type 0} (c : Crew G Op) (l : Layout) (p : Place) (free : List �
       served = m.served;
       first = through (first_at 0 begun) (length h.progress.settled) (length k.progress.settled) m.first (settled_longer who h k moves.follows);
       waits = m.waits;
-      right = m.right;
+      facts = facts_last c l p free h k (who_of name number call begun g) (who_of name number call begun g) op rows moves.risen refl (λ w v n. n)
+          (c.anatomy.machine op) m.facts;
       going = m.going;
       update = update_lasts who h k name number call (first_at 0 begun) (deed c.anatomy op) moves.follows other m.first m.update;
       knows = keeps.lasts h k who (who_of name number call begun g) op moves.was moves.is moves.later other rows old m.knows;
@@ -107,6 +110,7 @@ module _ {G Op : Type 0} (c : Crew G Op) (l : Layout) (p : Place) (free : List �
       reading = all_weaker (IsOpen l free h) (IsOpen l free k) still_open (reads_for g.at) m.reading;
       mine = s.mine;
       published = m.published;
+      alone = m.alone;
       doing = doing_lasts g u.name u.number u.doing s.other s.rows s.old m.doing;
     }
 

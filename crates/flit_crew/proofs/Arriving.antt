@@ -1,13 +1,14 @@
 -- Where a call goes on: its next machine starts in a sound world, and the next, as long as one ends without an event.
-use Rattle.std.proofs.Common.{◌≡◌, ◌≢◌, ◌⊎◌, inl, inr, ℕ, ◌<◌, nat_le, ◌&&◌, Bool, true, false, List, [], ◌∷◌, ◌++◌, length, map, refl, sym, ◌∙◌, ap, subst, if◌then◌else◌}
+use Rattle.std.proofs.Common.{◌≡◌, ◌≢◌, ◌⊎◌, inl, inr, ℕ, ◌<◌, ◌≤◌, nat_le, ◌&&◌, Bool, true, false, List, [], ◌∷◌, ◌++◌, length, map, Option, Some, None, refl, sym, ◌∙◌, ap, subst, if◌then◌else◌}
 use Rattle.std.specs.Prelude.{Contains}
 use Rattle.std.specs.List.{AllByRecursion}
 use Rattle.flit_words.specs.declared.layouts.Layout.{Layout}
-use Rattle.flit_words.specs.Layouts.{words_of}
+use Rattle.flit_words.specs.declared.limits.TheConstants.{GREATEST_VERSION}
+use Rattle.flit_words.specs.Layouts.{words_of, Accepted}
 use Rattle.flit_words.specs.Words.{version_of, is_tagged, bare_of}
 use Rattle.flit_model.specs.States.{State}
 use Rattle.flit_model.proofs.Elements.{all_weaker}
-use Rattle.flit_place.specs.Tags.{Place}
+use Rattle.flit_place.specs.Tags.{Place, IsSlot}
 use Rattle.flit_place.proofs.Splits.{all_with}
 use Rattle.flit_rows.specs.Shares.{rows_in}
 use Rattle.flit_rows.proofs.TakeLaws.{right_started}
@@ -18,17 +19,20 @@ use Rattle.flit_pv.specs.declared.hands.Hand.{Hand}
 use Rattle.flit_pv.specs.declared.queues.Noted.{Noted}
 use Rattle.flit_pv.specs.Hands.{with_queued, with_omitted}
 use Rattle.flit_pv.specs.Exchanges.{exchange_started}
-use Rattle.flit_runs.specs.Workings.{Dependency, Idles, Exchanges, Stores, words_from, Task, ToLoad, ToVLoad, ToConfirm, ToExchange, ToVExchange, ToStore, ToFence, ToComplete, ToEvict, started, leaves, takes_over, goes_for}
-use Rattle.flit_runs.specs.Worlds.{IsAway, IsShared, IsSpare, MayStart, begun, world_of, start}
+use Rattle.flit_runs.specs.Workings.{Dependency, Idles, Exchanges, Stores, words_from, writing_at, Task, ToLoad, ToVLoad, ToConfirm, ToExchange, ToVExchange, ToStore, ToFence, ToComplete, ToEvict, started, leaves, takes_over, goes_for}
+use Rattle.flit_runs.specs.Worlds.{Seen, HasSeen, writings, IsAway, IsShared, IsSpare, MayStart, begun, world_of, start}
 use Rattle.flit_runs.specs.Worlds.{Actor}
-use Rattle.flit_runs.specs.Soundness.{IsSound, IsSafelyRead, Needs}
+use Rattle.flit_runs.specs.Soundness.{IsSound, IsSafelyRead, MayConfirm, Needs}
+use Rattle.flit_runs.proofs.ExchangeSteps.{around}
 use Rattle.flit_runs.proofs.Turns.{sound-turn, safe}
-use Rattle.flit_crew.specs.Machines.{Works, working_in, hand_in, hand_of, reads_for, has_ended, has_linked, deed_of}
+use Rattle.flit_crew.specs.Machines.{Works, SeesNoTag, working_in, hand_in, hand_of, reads_for, has_ended, has_linked, deed_of}
 use Rattle.flit_crew.specs.Heaps.{Heap, IsOpen, IsShut, IsMine, IsWordOf}
 use Rattle.flit_crew.specs.Anatomies.{own, rows_but}
-use Rattle.flit_crew.specs.Crews.{Crew, Who, MayBegin, IsSpareWord, StandsRight, Goes, starts, draws, passes, changes, left}
-use Rattle.flit_crew.proofs.Changes.{sound_rests, sound_leaves}
+use Rattle.flit_crew.specs.Crews.{Crew, Who, MayBegin, IsSpareWord, Facts, IsAlone, Goes, starts, draws, passes, changes, left, taking_over}
+use Rattle.flit_runs.proofs.Changes.{sound_rests, sound_leaves}
 use Rattle.flit_crew.proofs.Owning.{rests_now}
+use Rattle.flit_crew.proofs.Alone.{left_queued}
+use Rattle.flit_crew.proofs.Knowing.{started_facts}
 
 -- the same worker at rest with this hand
 abbrev pub resting : Who → Hand → Actor
@@ -43,6 +47,13 @@ needed_safely : (s : State) (pairs : List Noted) (needs : List Dependency) (word
 needed_safely s pairs [] word version h n = absurd n
 needed_safely s pairs (d ∷ ds) word version h (inl e) = subst (λ w. IsSafelyRead s pairs w version) e.0 (subst (λ v. IsSafelyRead s pairs d.word v) e.1 h.0)
 needed_safely s pairs (d ∷ ds) word version h (inr n) = needed_safely s pairs ds word version h.1 n
+
+-- what is true of all that it has seen is so of this
+found_seen : (P : Seen → Type 0) (Q : Type 0) (seen : List Seen) (word raw : ℕ) → ((x : Seen) → P x → (x.word ≡ word) × (x.raw ≡ raw) → Q) →
+    AllByRecursion P seen → HasSeen seen word raw → Q
+found_seen P Q [] word raw g all h = absurd h
+found_seen P Q (x ∷ xs) word raw g all (inl e) = g x all.0 e
+found_seen P Q (x ∷ xs) word raw g all (inr k) = found_seen P Q xs word raw g all.1 k
 
 -- a start, and an end without an event, leave the worker its name
 pub record IsSame (was now : Hand) : Type 0 where
@@ -129,7 +140,7 @@ module _ {G Op : Type 0} (c : Crew G Op) (l : Layout) (p : Place) (free : List �
   started_reading me ToComplete hand may = tt
   started_reading me (ToEvict w) hand may = absurd may
 
-  module _ (s : State) (words : length s.words ≡ words_of l) (same_words : h.words ≡ map bare_of s.words) (xs ys : List Actor)
+  module _ (accepted : Accepted l) (s : State) (words : length s.words ≡ words_of l) (same_words : h.words ≡ map bare_of s.words) (xs ys : List Actor)
       (others : AllByRecursion (λ o. AllByRecursion (IsShut l free h) o.private) (xs ++ ys))
       -- the operation's own rows: they are rows of the pool that aren't linked, and the others don't reach their words
       (op : Op) (pool_rows : (row : ℕ) → Contains (own c.anatomy op) row → Contains free row × (Contains h.given row → ⊥))
@@ -171,6 +182,9 @@ module _ {G Op : Type 0} (c : Crew G Op) (l : Layout) (p : Place) (free : List �
           unreached = o;
         }
 
+    limit_small : (n : ℕ) → n ≡ l.limit → n ≤ GREATEST_VERSION
+    limit_small n e = subst (λ x. x ≤ GREATEST_VERSION) (sym e) accepted.most_limit
+
     may_start : (me : Who) (hand : Hand) → AllByRecursion (IsShut l free h) me.private → IsSoundWith (resting me hand) → (task : Task) →
         (takes_over task ≡ [] ⊎ ((row : ℕ) → Contains (rows_in hand.spare) row → Contains (own c.anatomy op) row)) →
         MayBegin c l p free h me hand task → MayStart (λ word. false) s (xs ++ ys) (resting me hand) task
@@ -180,14 +194,14 @@ module _ {G Op : Type 0} (c : Crew G Op) (l : Layout) (p : Place) (free : List �
     may_start me hand shut sound (ToExchange w old value limit) rows may = record {
       shared = shared me hand shut w may.0;
       small = may.1;
-      limited = may.2;
+      limited = limit_small limit may.2;
       owed = needed_safely s hand.queue me.needs w (version_of old) (safe p (λ word. false) s xs (resting me hand) ys sound).needs may.3;
     }
     may_start me hand shut sound (ToVExchange w old value limit) rows may = absurd may
     may_start me hand shut sound (ToStore first values limit) rows may = record {
       spare = by_rows rows;
       small = may.1;
-      limited = may.2;
+      limited = limit_small limit may.2;
     }
       where
         none : (ws : List ℕ) → ws ≡ [] → AllByRecursion (IsSpare (λ word. false) s (xs ++ ys)) ws
@@ -213,7 +227,8 @@ module _ {G Op : Type 0} (c : Crew G Op) (l : Layout) (p : Place) (free : List �
       pub reached : AllByRecursion (IsOpen l free h) (goes_for actor.at)
       pub reading : AllByRecursion (IsOpen l free h) (reads_for actor.at)
       pub mine : AllByRecursion IsOwnWord actor.private
-      pub right : StandsRight c l p free (c.anatomy.machine op)
+      pub facts : Facts c l p free h (who_now me actor) op (c.anatomy.machine op)
+      pub alone : l.workers ≡ 1 → IsAlone c l p free actor
       pub going : has_ended p (c.anatomy.machine op) ≡ false
       pub same_call : c.anatomy.call op ≡ me.call
       pub knows : c.knows h (who_now me actor) op
@@ -230,6 +245,39 @@ module _ {G Op : Type 0} (c : Crew G Op) (l : Layout) (p : Place) (free : List �
         begun task (resting me hand) ≡ record (resting me hand) { at = started task hand }
     private_same task me hand none = ap (λ ws. let g : Actor = record { at = started task hand; needs = me.needs; seen = me.seen; private = ws ++ me.private }
         in g) none
+
+    -- a worker that is the only one sees no tag where it starts a machine
+    started_sees : (me : Who) (hand : Hand) → IsSoundWith (resting me hand) → (task : Task) → MayBegin c l p free h me hand task →
+        (p.counted ≡ false → AllByRecursion (λ x. is_tagged x.raw ≡ false) me.seen) → SeesNoTag p (started task hand)
+    started_sees me hand sound (ToLoad w) may seen = tt
+    started_sees me hand sound (ToVLoad w) may seen = tt
+    started_sees me hand sound (ToConfirm w raw) may seen = (
+      λ counted. found_seen (λ x. is_tagged x.raw ≡ false) (is_tagged raw ≡ false) me.seen w raw (λ x e same. ap is_tagged (sym same.1) ∙ e) (seen counted) may,
+      λ counted none. has_slot (p.slot w) none (subst (λ b. IsSlot b (length s.slots) (p.slot w)) counted (sound.suits.slots w
+          (found_seen (MayConfirm p (λ x. false) s (around (writings xs) (writing_at (resting me hand).at) (writings ys))) (w < length s.words)
+          me.seen w raw (λ x k same. subst (λ y. y < length s.words) same.0 k.pair.plain.0)
+          (safe p (λ word. false) s xs (resting me hand) ys sound).seen may))),
+    )
+      where
+        has_slot : (o : Option ℕ) → o ≡ None → IsSlot true (length s.slots) o → ⊥
+        has_slot o e k = clash k.0 (sym e ∙ k.1)
+          where
+            clash : (x : ℕ) → None ≡ Some x → ⊥
+            clash x q = cc
+    started_sees me hand sound (ToExchange w old value limit) may seen = tt
+    started_sees me hand sound (ToVExchange w old value limit) may seen = absurd may
+    started_sees me hand sound (ToStore first values limit) may seen = tt
+    started_sees me hand sound ToFence may seen = tt
+    started_sees me hand sound ToComplete may seen = tt
+    started_sees me hand sound (ToEvict w) may seen = absurd may
+
+    pub started_alone : (me : Who) (hand : Hand) → IsSoundWith (resting me hand) → (task : Task) → MayBegin c l p free h me hand task →
+        IsAlone c l p free (resting me hand) → IsAlone c l p free (begun task (resting me hand))
+    started_alone me hand sound task may k = record {
+      machine = started_sees me hand sound task may k.seen;
+      queued = ap (λ x. x.tally.queued) (started_hand me task hand may) ∙ k.queued;
+      seen = k.seen;
+    }
 
     -- in a PrivateStore its rows are those of its hand
     store_rows : (m : HeldStore) → c.anatomy.machine op ≡ Works (Stores m) → own c.anatomy op ≡ rows_in m.hand.spare
@@ -274,9 +322,10 @@ module _ {G Op : Type 0} (c : Crew G Op) (l : Layout) (p : Place) (free : List �
     taken_words me hand ToComplete rows may = tt
     taken_words me hand (ToEvict w) rows may = tt
 
-    pub arrives : (me : Who) (hand : Hand) → AllByRecursion IsOwnWord me.private → IsSoundWith (resting me hand) → Goes c l p free h me hand op →
+    pub arrives : (me : Who) (hand : Hand) → AllByRecursion IsOwnWord me.private → IsSoundWith (resting me hand) →
+        (l.workers ≡ 1 → IsAlone c l p free (resting me hand)) → Goes c l p free h me hand op →
         Arrived me hand
-    arrives me hand own_private sound (starts _ _ task _ may at going call knows) =
+    arrives me hand own_private sound alone (starts _ _ task _ may at going call is_for knows) =
         let rows = rows_for task hand at in record {
           actor = begun task (resting me hand);
           sound = started_sound me hand task rows (shut_words me.private own_private) sound may;
@@ -287,12 +336,14 @@ module _ {G Op : Type 0} (c : Crew G Op) (l : Layout) (p : Place) (free : List �
           reached = started_open me task hand may;
           reading = started_reading me task hand may;
           mine = all_both IsOwnWord (takes_over task) me.private (taken_words me hand task rows may) own_private;
-          right = subst (StandsRight c l p free) (sym at) tt;
+          alone = λ one. started_alone me hand sound task may (alone one);
+          facts = subst (Facts c l p free h (taking_over c l p free me task) op) (sym at)
+              (started_facts c l p free h me hand op task may rows (sym (ap (has_ended p) at) ∙ going) is_for);
           going = going;
           same_call = call;
           knows = knows;
         }
-    arrives me hand own_private sound (draws _ _ _ at going call knows) = record {
+    arrives me hand own_private sound alone (draws _ _ _ at going call knows) = record {
       actor = resting me hand;
       sound = sound;
       at = ap working_in (sym at);
@@ -302,15 +353,18 @@ module _ {G Op : Type 0} (c : Crew G Op) (l : Layout) (p : Place) (free : List �
       reached = tt;
       reading = tt;
       mine = own_private;
-      right = subst (StandsRight c l p free) (sym at) (right_started free hand (rows_needed l.kind), refl);
+      alone = alone;
+      facts = subst (Facts c l p free h me op) (sym at) (right_started free hand (rows_needed l.kind), refl);
       going = going;
       same_call = call;
       knows = knows;
     }
-    arrives me hand own_private sound (passes _ _ task _ may nothing none rest) =
+    arrives me hand own_private sound alone (passes _ _ task _ may nothing none rest) =
         let at = started task hand in
         let r = arrives (left c l p free me at) (leaves at) own_private (sound_leaves p (λ word. false) s xs (record (resting me hand) { at = at }) ys none
-        (subst IsSoundWith (private_same task me hand nothing) (started_sound me hand task (inl nothing) (shut_words me.private own_private) sound may))) rest
+        (subst IsSoundWith (private_same task me hand nothing) (started_sound me hand task (inl nothing) (shut_words me.private own_private) sound may)))
+        (λ one. let k = started_alone me hand sound task may (alone one) in
+        record { machine = tt; queued = left_queued p at none k.machine ∙ k.queued; seen = k.seen }) rest
         in
         let n = left_hand me task hand may in
         record {
@@ -323,13 +377,15 @@ module _ {G Op : Type 0} (c : Crew G Op) (l : Layout) (p : Place) (free : List �
           reached = r.reached;
           reading = r.reading;
           mine = r.mine;
-          right = r.right;
+          alone = r.alone;
+          facts = r.facts;
           going = r.going;
           same_call = r.same_call;
           knows = r.knows;
         }
-    arrives me hand own_private sound (changes _ _ now _ alike rest) =
-        let r = arrives me now own_private (sound_rests p (λ word. false) s xs (resting me hand) ys now refl (sym alike.queue) sound) rest in
+    arrives me hand own_private sound alone (changes _ _ now _ alike rest) =
+        let r = arrives me now own_private (sound_rests p (λ word. false) s xs (resting me hand) ys now refl (sym alike.queue) sound)
+        (λ one. let k = alone one in record { machine = tt; queued = alike.queued ∙ k.queued; seen = k.seen }) rest in
         record {
           actor = r.actor;
           sound = r.sound;
@@ -341,7 +397,8 @@ module _ {G Op : Type 0} (c : Crew G Op) (l : Layout) (p : Place) (free : List �
               r.reached;
           reading = r.reading;
           mine = r.mine;
-          right = r.right;
+          alone = r.alone;
+          facts = r.facts;
           going = r.going;
           same_call = r.same_call;
           knows = r.knows;

@@ -1,5 +1,5 @@
 -- A call begins and ends; and so does an Evict.
-use Rattle.std.proofs.Common.{◌≡◌, inl, ℕ, ◌+◌, ◌≤◌, ◌&&◌, not, Bool, true, false, List, [], ◌∷◌, ◌++◌, length, drop, Option, Some, None, is_none, refl, sym, ◌∙◌, ap, subst, arith}
+use Rattle.std.proofs.Common.{◌≡◌, inl, ℕ, ◌+◌, ◌≤◌, ◌&&◌, not, Bool, true, false, List, [], ◌∷◌, ◌++◌, length, Option, Some, None, is_none, refl, sym, ◌∙◌, ap, subst, arith}
 use Rattle.std.specs.Prelude.{Contains}
 use Rattle.std.specs.List.{AllByRecursion}
 use Rattle.flit_words.specs.declared.layouts.Layout.{Layout}
@@ -11,7 +11,6 @@ use Rattle.flit_pv.specs.declared.hands.Hand.{Hand}
 use Rattle.flit_pv.specs.declared.queues.Noted.{Noted}
 use Rattle.flit_pv.specs.Queues.{first_persist}
 use Rattle.flit_pv.specs.Fences.{HeldComplete}
-use Rattle.flit_rows.specs.Shares.{rows_in}
 use Rattle.flit_runs.specs.Workings as run
 use Rattle.flit_runs.specs.Workings.{Working, Idles, Loads, VLoads, Confirms, Exchanges, VExchanges, Stores, Fences, Completes, Evicts, Task, ToEvict, started, takes_over, leaves}
 use Rattle.flit_runs.specs.Worlds.{Actor, world_of, begun, publishes, IsNotStoring}
@@ -22,21 +21,22 @@ use Rattle.flit_runs.proofs.Turns.{sound-turn}
 use Rattle.flit_structure.specs.declared.workers.Worker.{Worker}
 use Rattle.flit_structure.specs.Moments.{Moment, with_workers, idle, busy, sweeper}
 use Rattle.flit_structure.specs.Meanings.{IsServed}
-use Rattle.flit_structure.specs.Lawful.{rows_needed}
 use Rattle.flit_structure.proofs.Names.{all_both}
-use Rattle.flit_crew.specs.Machines.{Machine, Works, Takes, Fresh, MakesAt, machine_asks, working_in, hand_in, hand_of, has_ended, is_complete, deed_of}
+use Rattle.flit_crew.specs.Machines.{Machine, Works, Takes, Tags, Fresh, MakesAt, machine_asks, working_in, hand_in, hand_of, has_ended, is_complete, deed_of}
 use Rattle.flit_crew.specs.Heaps.{Heap, heap_of, waits_at, IsOpen, IsWordOf, IsShut}
 use Rattle.flit_crew.specs.Anatomies.{own, own_in, hand_at, deed_by}
-use Rattle.flit_crew.specs.Accounts.{HasUpdate, IsUnmade, Rows, History, IsSteady, IsTight, IsMaker}
-use Rattle.flit_crew.specs.Crews.{Crew, Who, Holds, IsBusy, StandsRight, who_of}
+use Rattle.flit_crew.specs.Accounts.{HasUpdate, IsUnmade, Rows, History, IsSteady, AreTight, IsMaker}
+use Rattle.flit_crew.specs.Crews.{Crew, Who, Holds, IsBusy, Facts, who_of}
 use Rattle.flit_crew.specs.Obligations.{Keeps, StartsSo}
 use Rattle.flit_crew.proofs.Acting.{Split}
 use Rattle.flit_crew.proofs.Moving.{h, mine, is_sound, moved_still}
-use Rattle.flit_crew.proofs.Changes.{sound_rests}
+use Rattle.flit_runs.proofs.Changes.{sound_rests}
 use Rattle.flit_crew.proofs.Accounting.{rows_steady, history_steady, own_number}
 use Rattle.flit_crew.proofs.Standing.{own_fresh}
 use Rattle.flit_crew.proofs.Owning.{IsOwn, own_row, own_away, lower}
-use Rattle.flit_crew.proofs.Arriving.{resting, started_sound, started_hand, started_open, started_reading}
+use Rattle.flit_crew.proofs.Arriving.{resting, started_sound, started_alone, started_hand, started_open, started_reading}
+use Rattle.flit_crew.proofs.Tagging.{tags_none}
+use Rattle.flit_crew.proofs.Knowing.{started_facts}
 use Rattle.flit_crew.proofs.Going.{all_shut}
 
 module _ {G Op : Type 0} (c : Crew G Op) (l : Layout) (p : Place) (free : List ℕ) (keeps : Keeps c l p free) (M : Moment Op) (a b : List (Worker Op)) where
@@ -71,30 +71,30 @@ module _ {G Op : Type 0} (c : Crew G Op) (l : Layout) (p : Place) (free : List �
     nothing_private : r.actor.private ≡ []
     nothing_private = r.mine.doing.0
 
-    rests : IsSound p (λ word. false) (world_of M.state r.before (resting me now) r.behind)
-    rests = sound_rests p (λ word. false) M.state r.before r.actor r.behind now (ap run.writing_at r.mine.at)
-        (ap Rattle.flit_runs.specs.Soundness.owed r.mine.at) (is_sound c l p free keeps M a u b holds)
+    rests : IsSound p (λ word. false) (world_of M.state r.before (resting me x.now) r.behind)
+    rests = sound_rests p (λ word. false) M.state r.before r.actor r.behind x.now (ap run.writing_at r.mine.at)
+        (ap Rattle.flit_runs.specs.Soundness.owed r.mine.at ∙ sym x.alike.queue) (is_sound c l p free keeps M a u b holds)
 
     abbrev g : Actor
-    g = begun x.task (resting me now)
+    g = begun x.task (resting me x.now)
 
     own_is : (row : ℕ) → Contains (own c.anatomy op) row → IsOwn (λ v. own_in c.anatomy v.doing) free holds.given a b row
     own_is row k = own_row (λ v. own_in c.anatomy v.doing) free M.state.counter holds.given a u b row (lower free holds.pool.rising) holds.rows.dealt
         (subst (λ rows. Contains rows row) (keeps.begun_own hand call) k)
 
     sound : IsSound p (λ word. false) (world_of M.state r.before g r.behind)
-    sound = started_sound c l p free here M.state holds.words refl r.before r.behind
+    sound = started_sound c l p free here holds.accepted M.state holds.words refl r.before r.behind
         (all_both (λ o. AllByRecursion (IsShut l free here) o.private) r.before r.behind (all_shut c l p free here a r.before r.left)
         (all_shut c l p free here b r.behind r.right))
         op (λ row k. ((own_is row k).pool, (own_is row k).unlinked)) (λ row v k of. own_away c l p free here holds.pool a b r.before r.behind r.left r.right row
         v (own_is row k) of)
-        me now x.task (inl x.none) (subst (AllByRecursion (IsShut l free here)) (sym nothing_private) tt) rests x.may
+        me x.now x.task (inl x.none) (subst (AllByRecursion (IsShut l free here)) (sym nothing_private) tt) rests x.may
 
     at : g.at ≡ working_in (c.anatomy.machine op)
     at = ap working_in (sym x.at)
 
-    hand_is : hand_of g.at ≡ now
-    hand_is = started_hand c l p free here me x.task now x.may
+    hand_is : hand_of g.at ≡ x.now
+    hand_is = started_hand c l p free here me x.task x.now x.may
 
     none_private : g.private ≡ []
     none_private = ap (λ ws. ws ++ r.actor.private) x.none ∙ nothing_private
@@ -114,38 +114,49 @@ module _ {G Op : Type 0} (c : Crew G Op) (l : Layout) (p : Place) (free : List �
         above : (x n : ℕ) → x ≤ n → x ≡ n + 1 → ⊥
         above x n i e = omega (arith, i, e)
 
-    hand_begun : hand_at c.anatomy w.doing ≡ now
+    hand_begun : hand_at c.anatomy w.doing ≡ x.now
     hand_begun = ap hand_of (sym at) ∙ hand_is
 
     steady : IsSteady c.anatomy l here u w
     steady = record {
       own = keeps.begun_own hand call;
-      ticket = ap (λ x. x.ticket) hand_begun;
-      tight = λ t. ap (λ x. rows_in (drop (rows_needed l.kind) x.spare)) hand_begun ∙ t;
+      ticket = ap (λ y. y.ticket) hand_begun ∙ x.alike.ticket;
+      tight = λ t. subst (AreTight l) (sym (keeps.begun_spare hand call)) t;
       makes = λ word e is q. absurd q;
     }
 
-    begin_right : (task : Task) (m : Machine) → m ≡ Works (started task now) → StandsRight c l p free m
-    begin_right task m e = subst (StandsRight c l p free) (sym e) tt
+    begin_facts : Facts c l p free here (who_of name (number + 1) call None g) op (c.anatomy.machine op)
+    begin_facts = subst (Facts c l p free here (who_of name (number + 1) call None g) op) (sym x.at)
+        (started_facts c l p free here me x.now op x.task x.may (inl x.none) (sym (ap (has_ended p) x.at) ∙ x.going) x.is_for)
 
     pub begins : Holds c l p free (with_workers M (a ++ w ∷ b))
-    begins = moved_still c l p free keeps M a u b holds M.state w g refl holds.words holds.slots sound refl
+    begins = moved_still c l p free keeps M a u b holds M.state w g refl holds.words holds.slots sound
+        (tags_none p M.state M.state r.actor.at g.at refl (subst (λ y. (z bare : ℕ) → Tags z bare y → ⊥) (sym r.mine.at) (λ z bare i. i))) refl
         (record {
           at = at;
-          name = ap (λ y. y.name) hand_is ∙ ap (λ y. (hand_of y).name) (sym r.mine.at) ∙ r.mine.name;
-          number = ap (λ y. y.number) hand_is ∙ ap (λ n. n + 1) (ap (λ y. (hand_of y).number) (sym r.mine.at) ∙ r.mine.number);
+          name = ap (λ y. y.name) hand_is ∙ x.alike.name ∙ ap (λ y. (hand_of y).name) (sym r.mine.at) ∙ r.mine.name;
+          number = ap (λ y. y.number) hand_is ∙ x.alike.number ∙ ap (λ n. n + 1) (ap (λ y. (hand_of y).number) (sym r.mine.at) ∙ r.mine.number);
           least = r.mine.least;
           most = r.mine.most;
-          reached = started_open c l p free here me x.task now x.may;
-          reading = started_reading c l p free here me x.task now x.may;
+          reached = started_open c l p free here me x.task x.now x.may;
+          reading = started_reading c l p free here me x.task x.now x.may;
           mine = subst (AllByRecursion (Rattle.flit_crew.specs.Heaps.IsMine l free here (own c.anatomy op))) (sym none_private) tt;
           published = λ q t. none_private;
+          alone = λ one. started_alone c l p free here holds.accepted M.state holds.words refl r.before r.behind
+              (all_both (λ o. AllByRecursion (IsShut l free here) o.private) r.before r.behind (all_shut c l p free here a r.before r.left)
+              (all_shut c l p free here b r.behind r.right)) op (λ row k. ((own_is row k).pool, (own_is row k).unlinked))
+              (λ row v k of. own_away c l p free here holds.pool a b r.before r.behind r.left r.right row v (own_is row k) of) me x.now rests x.task x.may
+              (record {
+                machine = tt;
+                queued = x.alike.queued ∙ ap (λ y. (hand_of y).tally.queued) (sym r.mine.at) ∙ (r.mine.alone one).queued;
+                seen = (r.mine.alone one).seen;
+              });
           doing = record {
             same_call = x.call;
             served = served;
             first = least (length M.progress.settled);
             waits = λ e. (hand, refl, none_private);
-            right = begin_right x.task (c.anatomy.machine op) x.at;
+            facts = begin_facts;
             going = x.going;
             update = subst (HasUpdate here name (number + 1) call 0) (sym (keeps.begun_deed hand call)) unmade;
             knows = knows;
@@ -167,13 +178,13 @@ module _ {G Op : Type 0} (c : Crew G Op) (l : Layout) (p : Place) (free : List �
     abbrev v : Worker Op
     v = busy name number op call begun_at
 
-    abbrev there : Heap G
+    abbrev pub there : Heap G
     there = h c l p free keeps M a v b holds
 
-    abbrev q : Split c l p free there a v b holds.actors
+    abbrev pub q : Split c l p free there a v b holds.actors
     q = mine c l p free keeps M a v b holds
 
-    known : IsBusy c l p free there q.actor name number op call begun_at
+    pub known : IsBusy c l p free there q.actor name number op call begun_at
     known = q.mine.doing
 
     -- a machine that asks nothing while its call is under way is a Complete
@@ -262,7 +273,8 @@ module _ {G Op : Type 0} (c : Crew G Op) (l : Layout) (p : Place) (free : List �
         no_make false false word y = y
 
     pub ends : Holds c l p free (with_workers M (a ++ w_idle ∷ b))
-    ends = moved_still c l p free keeps M a v b holds M.state w_idle left_actor refl holds.words holds.slots left_sound refl
+    ends = moved_still c l p free keeps M a v b holds M.state w_idle left_actor refl holds.words holds.slots left_sound
+        (tags_none p M.state M.state q.actor.at left_actor.at refl (subst (λ y. (z bare : ℕ) → Tags z bare y → ⊥) (sym at_complete) (λ z bare i. i))) refl
         (record {
           at = refl;
           name = ap (λ y. (hand_of y).name) (sym q.mine.at) ∙ q.mine.name;
@@ -272,7 +284,12 @@ module _ {G Op : Type 0} (c : Crew G Op) (l : Layout) (p : Place) (free : List �
           reached = tt;
           reading = tt;
           mine = tt;
-          published = λ q t. refl;
+          published = λ z t. refl;
+          alone = λ one. record {
+            machine = tt;
+            queued = ap (λ y. (hand_of y).tally.queued) (sym q.mine.at) ∙ (q.mine.alone one).queued;
+            seen = (q.mine.alone one).seen;
+          };
           doing = (refl, ap (λ y. y.queue) hand_was ∙ is_complete_now.2);
         })
         (rows_steady c.anatomy l free M.state.counter there a v w_idle b over holds.rows)

@@ -132,6 +132,7 @@ module _ {G Op : Type 0} (c : Crew G Op) (l : Layout) (p : Place) (free : List �
         goes = λ h o. tt;
         reading = refl;
         deeds = inl refl;
+        facts = λ h me you on x. tt;
         knows = λ h me you kept on le known. keeps.steady h me you op (Works (Fences (fence_taken m 0))) (0, ap (λ x. machine_takes p free x 0) (sym is)) kept
             on (sym (ap part_of is)) known;
       } in
@@ -152,7 +153,7 @@ module _ {G Op : Type 0} (c : Crew G Op) (l : Layout) (p : Place) (free : List �
       holds.slots refl
       (subst (λ x. IsOn m.hand (evict_takes x m told).hand) (sym at) (record { name = refl; number = refl; spare = refl; ticket = refl })) tt tt
       refl (same_deeds c l p free keeps M a name number op call begun b holds K (same_le K) (Works (run.takes p (Evicts m) told))
-      (told, ap (λ x. machine_takes p free x told) (sym is)) (sym (ap deed_of is)))
+      (told, ap (λ x. machine_takes p free x told) (sym is)) (sym (ap deed_of is))) tt
       (keeps.steady _ (me_now c l p free keeps M a name number op call begun b holds K (same_le K) mine.actor)
       (me_now c l p free keeps M a name number op call begun b holds K (same_le K)
       (gone c l p free keeps M a name number op call begun b holds K (same_le K) (Load m.word) []))
@@ -170,6 +171,7 @@ module _ {G Op : Type 0} (c : Crew G Op) (l : Layout) (p : Place) (free : List �
         goes = λ h o. tt;
         reading = refl;
         deeds = inl refl;
+        facts = λ h me you on x. tt;
         knows = λ h me you kept on le known. keeps.steady h me you op (Works (run.takes p (Evicts m) 0)) (0, ap (λ x. machine_takes p free x 0) (sym is)) kept
             on (sym (ap part_of is)) known;
       } in

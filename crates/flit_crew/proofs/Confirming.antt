@@ -77,6 +77,7 @@ module _ {G Op : Type 0} (c : Crew G Op) (l : Layout) (p : Place) (free : List �
             (subst (AllByRecursion (IsOpen l free h)) (sym t.further.goes) tt);
         reading = ap reads_for (taken 0);
         deeds = inl refl;
+        facts = λ h me you on x. tt;
         knows = λ h me you kept on le known. subst (λ x. c.knows h you (c.anatomy.with_machine op (Works x))) (sym (taken 0))
             (keeps.steady h me you op (Works (Loads (load_takes p (Load_makes_room raw first) m 0))) (
               0,
@@ -95,7 +96,7 @@ module _ {G Op : Type 0} (c : Crew G Op) (l : Layout) (p : Place) (free : List �
         (ap (λ x. confirm_asks p x m) at ∙ ap (λ o. confirm_begins p m o) has) tt holds.words holds.slots refl
         (confirm_on p m m.at (count_at M.state slot)) tt tt
         refl (same_deeds c l p free keeps M a name number op call begun b holds K (same_le K) (Works (run.takes p (Confirms m) (count_at M.state slot)))
-        (count_at M.state slot, ap (λ x. machine_takes p free x (count_at M.state slot)) (sym is)) (sym (ap deed_of is)))
+        (count_at M.state slot, ap (λ x. machine_takes p free x (count_at M.state slot)) (sym is)) (sym (ap deed_of is))) tt
         (keeps.steady _ (me_now c l p free keeps M a name number op call begun b holds K (same_le K) mine.actor)
         (me_now c l p free keeps M a name number op call begun b holds K (same_le K)
         (gone c l p free keeps M a name number op call begun b holds K (same_le K) e []))
@@ -117,6 +118,7 @@ module _ {G Op : Type 0} (c : Crew G Op) (l : Layout) (p : Place) (free : List �
       goes = λ h o. tt;
       reading = refl;
       deeds = inl refl;
+      facts = λ h me you on x. tt;
       knows = λ h me you kept on le known. keeps.steady h me you op (Works (run.takes p (Confirms m) 0)) (0, ap (λ x. machine_takes p free x 0) (sym is)) kept
           on (sym (ap part_of is)) known;
     }

@@ -21,7 +21,7 @@ use Rattle.flit_structure.proofs.Names.{all_put, all_at}
 use Rattle.flit_crew.specs.Heaps.{Heap}
 use Rattle.flit_crew.specs.Anatomies.{Anatomy, own_in, hand_at}
 use Rattle.flit_crew.specs.Rows.{IsDealt}
-use Rattle.flit_crew.specs.Accounts.{IsPool, Rows, IsTight, inserts_in}
+use Rattle.flit_crew.specs.Accounts.{IsPool, Rows, IsTight, AreTight, inserts_in}
 use Rattle.flit_crew.proofs.Owning.{contains_self}
 use Rattle.flit_crew.proofs.Rowing.{linked, followed, drawn}
 use Rattle.flit_crew.proofs.Accounting.{count_split, count_put}
@@ -70,6 +70,14 @@ filled_beyond : (n row : ℕ) (spare : List ℕ) → lacks n spare ≡ true → 
 filled_beyond zero row spare l = absurd (false≢true l)
 filled_beyond (suc n) row [] l = absurd (false≢true l)
 filled_beyond (suc n) row (r ∷ rs) l = beyond_one n row r rs (r == 0) refl l (filled_beyond n row rs)
+
+filled_length : (row : ℕ) (spare : List ℕ) → length (filled row spare) ≡ length spare
+filled_length row [] = refl
+filled_length row (r ∷ rs) = by_test (r == 0) refl (filled_length row rs)
+  where
+    by_test : (b : Bool) → (r == 0) ≡ b → length (filled row rs) ≡ length rs → length (filled row (r ∷ rs)) ≡ length (r ∷ rs)
+    by_test true e rest = rw e refl
+    by_test false e rest = rw e (ap suc rest)
 
 -- and those that were there stay
 pub filled_keeps : (n row x : ℕ) (spare : List ℕ) → (row == 0) ≡ false → lacks n spare ≡ true → Contains (rows_in spare) x →
@@ -184,6 +192,8 @@ module _ {Op : Type 0} (A : Anatomy Op) (l : Layout) (free : List ℕ) where
       longer n c h = omega (arith, h)
 
       tight_now : (o : Option ℕ) → (hand_at A w.doing).spare ≡ with_row o (hand_at A u.doing).spare → IsTight A l u → IsTight A l w
-      tight_now None q t = ap (λ xs. rows_in (drop (rows_needed l.kind) xs)) q ∙ t
-      tight_now (Some row) q t = ap (λ xs. rows_in (drop (rows_needed l.kind) xs)) q
-          ∙ ap rows_in (filled_beyond (rows_needed l.kind) row (hand_at A u.doing).spare missing) ∙ t
+      tight_now None q t = subst (AreTight l) (sym q) t
+      tight_now (Some row) q t = subst (AreTight l) (sym q) (
+        subst (λ n. rows_needed l.kind ≤ n) (sym (filled_length row (hand_at A u.doing).spare)) t.0,
+        ap rows_in (filled_beyond (rows_needed l.kind) row (hand_at A u.doing).spare missing) ∙ t.1,
+      )

@@ -21,15 +21,17 @@ use Rattle.flit_runs.proofs.Turns.{sound-turn}
 use Rattle.flit_structure.specs.declared.workers.Worker.{Worker}
 use Rattle.flit_structure.specs.Moments.{Moment, with_workers, busy}
 use Rattle.flit_structure.specs.Meanings.{first_at}
-use Rattle.flit_crew.specs.Machines.{Takes, MakesAt, deed_of, working_in, machine_takes, hand_in, hand_of}
+use Rattle.flit_crew.specs.Machines.{Takes, Tags, MakesAt, deed_of, working_in, machine_takes, hand_in, hand_of}
 use Rattle.flit_crew.specs.Heaps.{Heap, IsMine}
 use Rattle.flit_crew.specs.Anatomies.{own, hand_at, op_taken, gone_on}
 use Rattle.flit_crew.specs.Accounts.{HasUpdate, Rows}
-use Rattle.flit_crew.specs.Crews.{Crew, Holds, StandsRight}
+use Rattle.flit_crew.specs.Crews.{Crew, Holds, Facts}
 use Rattle.flit_crew.specs.Obligations.{Keeps, IsAfter}
-use Rattle.flit_crew.proofs.Changes.{sound_rests}
+use Rattle.flit_crew.proofs.Tagging.{tags_none}
+use Rattle.flit_runs.proofs.Changes.{sound_rests}
 use Rattle.flit_crew.proofs.Acting.{Split}
-use Rattle.flit_crew.proofs.Going.{r, heap, me_now, sound_now, busy_now, knows_now, update_now, went}
+use Rattle.flit_crew.proofs.Going.{r, heap, me_now, sound_now, facts_now, knows_now, update_now}
+use Rattle.flit_crew.proofs.GoingTo.{went}
 use Rattle.flit_crew.proofs.Accounting.{history_steady}
 use Rattle.flit_crew.proofs.Dealing.{rows_drawn, filled_keeps, from_pool}
 use Rattle.flit_crew.proofs.Standing.{deed_same, own_fresh}
@@ -73,8 +75,9 @@ module _ {G Op : Type 0} (c : Crew G Op) (l : Layout) (p : Place) (free : List �
   after_it : IsAfter c l p free op (Takes then_at)
   after_it = (told, ap (λ x. machine_takes p free x told) (sym is))
 
-  stands : StandsRight c l p free (Takes m)
-  stands = subst (StandsRight c l p free) is (busy_now c l p free keeps M a name number op call begun b holds K (same_le K)).right
+  stands : Facts c l p free here (me_now c l p free keeps M a name number op call begun b holds K (same_le K) mine.actor) op (Takes m)
+  stands = subst (Facts c l p free here (me_now c l p free keeps M a name number op call begun b holds K (same_le K) mine.actor) op) is
+      (facts_now c l p free keeps M a name number op call begun b holds K (same_le K))
 
   judged : IsRightAt free m Draws
   judged = subst (IsRightAt free m) at stands.0
@@ -160,7 +163,14 @@ module _ {G Op : Type 0} (c : Crew G Op) (l : Layout) (p : Place) (free : List �
         reading = tt;
         mine = all_weaker (IsMine l free here (own c.anatomy op)) (IsMine l free here (own c.anatomy next_op))
             (λ w k. record { shut = k.shut; own = own_more k.shut.row k.own }) mine.actor.private mine.mine.mine;
-        right = (right_taken free m told stands.0, ap (λ x. x.need) taken ∙ stands.1);
+        tags = tags_none p M.state (after M.state Draw) mine.actor.at (Idles then_at.hand) refl (subst (λ x. (y bare : ℕ) → Tags y bare x → ⊥) (sym at_rest)
+            (λ y bare i. i));
+        alone = λ one. record {
+          machine = tt;
+          queued = ap (λ x. x.hand.tally.queued) taken ∙ ap (λ x. (hand_of x).tally.queued) (sym at_rest) ∙ (mine.mine.alone one).queued;
+          seen = (mine.mine.alone one).seen;
+        };
+        facts = (right_taken free m told stands.0, ap (λ x. x.need) taken ∙ stands.1);
         update = subst (HasUpdate here name number call (first_at K begun)) (sym deeds)
             (update_now c l p free keeps M a name number op call begun b holds K (same_le K));
         rows = rows_now;

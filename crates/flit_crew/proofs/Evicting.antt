@@ -26,14 +26,15 @@ use Rattle.flit_runs.proofs.Turns.{sound-turn, safe}
 use Rattle.flit_structure.specs.declared.workers.Worker.{Worker}
 use Rattle.flit_structure.specs.Moments.{Moment, with_workers, idle, sweeper}
 use Rattle.flit_structure.proofs.WriteBacks.{old_state}
-use Rattle.flit_crew.specs.Machines.{hand_of}
+use Rattle.flit_crew.specs.Machines.{hand_of, Tags, SeesNoTag}
+use Rattle.flit_crew.proofs.Tagging.{tags_none}
 use Rattle.flit_crew.specs.Heaps.{Heap, heap_of, IsMine}
 use Rattle.flit_crew.specs.Accounts.{IsSteady}
 use Rattle.flit_crew.specs.Crews.{Crew, Holds}
 use Rattle.flit_crew.specs.Obligations.{Keeps}
 use Rattle.flit_crew.proofs.Acting.{Split}
 use Rattle.flit_crew.proofs.Moving.{h, mine, is_sound, moved_still}
-use Rattle.flit_crew.proofs.Changes.{sound_rests}
+use Rattle.flit_runs.proofs.Changes.{sound_rests}
 use Rattle.flit_crew.proofs.Accounting.{rows_steady, history_steady}
 use Rattle.flit_crew.proofs.WritingBack.{persisted}
 use Rattle.flit_crew.proofs.Fencing.{shadow_has}
@@ -62,7 +63,8 @@ module _ {G Op : Type 0} (c : Crew G Op) (l : Layout) (p : Place) (free : List �
       sound-turn p (λ y. false) (world_of M.state r.before (record r.actor { at = Idles hand }) r.behind) (world_of M.state r.before g r.behind)
       (start M.state r.before (record r.actor { at = Idles hand }) r.behind (ToEvict word) refl (subst (λ n. word < n) (sym holds.words) below)) rests in
       let steady : IsSteady c.anatomy l here u w = record { own = refl; ticket = refl; tight = λ t. t; makes = λ x e is q. absurd q } in
-      moved_still c l p free keeps M a u b holds M.state w g refl holds.words holds.slots sound refl
+      moved_still c l p free keeps M a u b holds M.state w g refl holds.words holds.slots sound
+      (tags_none p M.state M.state r.actor.at g.at refl (subst (λ y. (z bare : ℕ) → Tags z bare y → ⊥) (sym r.mine.at) (λ z bare i. i))) refl
       (record {
         at = refl;
         name = ap (λ y. (hand_of y).name) (sym r.mine.at) ∙ r.mine.name;
@@ -73,6 +75,11 @@ module _ {G Op : Type 0} (c : Crew G Op) (l : Layout) (p : Place) (free : List �
         reading = tt;
         mine = r.mine.mine;
         published = λ q t. r.mine.doing.0;
+        alone = λ one. record {
+          machine = tt;
+          queued = ap (λ y. (hand_of y).tally.queued) (sym r.mine.at) ∙ (r.mine.alone one).queued;
+          seen = (r.mine.alone one).seen;
+        };
         doing = (r.mine.doing.0, r.mine.doing.1, below);
       })
       (rows_steady c.anatomy l free M.state.counter here a u w b steady holds.rows)
@@ -91,7 +98,8 @@ module _ {G Op : Type 0} (c : Crew G Op) (l : Layout) (p : Place) (free : List �
       sound_rests p (λ y. false) M.state r.before r.actor r.behind m.hand (ap run.writing_at r.mine.at) (ap owed r.mine.at)
       (is_sound c l p free keeps M a u b holds) in
       let steady : IsSteady c.anatomy l here u w = record { own = refl; ticket = refl; tight = λ t. t; makes = λ x e is q. absurd q } in
-      moved_still c l p free keeps M a u b holds M.state w g refl holds.words holds.slots sound refl
+      moved_still c l p free keeps M a u b holds M.state w g refl holds.words holds.slots sound
+      (tags_none p M.state M.state r.actor.at g.at refl (subst (λ y. (z bare : ℕ) → Tags z bare y → ⊥) (sym r.mine.at) (λ z bare i. i))) refl
       (record {
         at = refl;
         name = ap (λ y. (hand_of y).name) (sym r.mine.at) ∙ r.mine.name;
@@ -102,6 +110,11 @@ module _ {G Op : Type 0} (c : Crew G Op) (l : Layout) (p : Place) (free : List �
         reading = tt;
         mine = r.mine.mine;
         published = λ q t. r.mine.doing.0;
+        alone = λ one. record {
+          machine = tt;
+          queued = ap (λ y. (hand_of y).tally.queued) (sym r.mine.at) ∙ (r.mine.alone one).queued;
+          seen = (r.mine.alone one).seen;
+        };
         doing = (r.mine.doing.0, r.mine.doing.1);
       })
       (rows_steady c.anatomy l free M.state.counter here a u w b steady holds.rows)
@@ -115,8 +128,9 @@ module _ {G Op : Type 0} (c : Crew G Op) (l : Layout) (p : Place) (free : List �
       (evict_taken m told).word ≡ m.word → (evict_taken m told).hand.queue ≡ m.hand.queue → (evict_taken m told).hand.name ≡ m.hand.name →
       (evict_taken m told).hand.number ≡ m.hand.number →
       (evict_taken m told).hand.spare ≡ m.hand.spare → (evict_taken m told).hand.ticket ≡ m.hand.ticket →
+      (evict_taken m told).hand.tally.queued ≡ m.hand.tally.queued →
       Holds c l p free (with_workers M (a ++ sweeper name number (evict_taken m told) ∷ b))
-  still m e holds asks same told is word queue hname hnumber spare ticket =
+  still m e holds asks same told is word queue hname hnumber spare ticket counted =
       let u : Worker Op = sweeper name number m in
       let w : Worker Op = sweeper name number (evict_taken m told) in
       let here = h c l p free keeps M a u b holds in
@@ -130,13 +144,11 @@ module _ {G Op : Type 0} (c : Crew G Op) (l : Layout) (p : Place) (free : List �
       let steady : IsSteady c.anatomy l here u w = record {
         own = ap Rattle.flit_rows.specs.Shares.rows_in spare;
         ticket = ticket;
-        tight =
-            λ t. ap (λ xs. Rattle.flit_rows.specs.Shares.rows_in (Rattle.std.specs.Prelude.drop (Rattle.flit_structure.specs.Lawful.rows_needed l.kind) xs))
-            spare
-            ∙ t;
+        tight = λ t. subst (Rattle.flit_crew.specs.Accounts.AreTight l) (sym spare) t;
         makes = λ x d waits q. absurd q;
       } in
-      moved_still c l p free keeps M a u b holds M.state w g refl holds.words holds.slots sound refl
+      moved_still c l p free keeps M a u b holds M.state w g refl holds.words holds.slots sound
+      (tags_none p M.state M.state r.actor.at g.at refl (subst (λ y. (z bare : ℕ) → Tags z bare y → ⊥) (sym r.mine.at) (λ z bare i. i))) refl
       (record {
         at = at;
         name = ap (λ y. (hand_of y).name) at ∙ hname ∙ ap (λ y. (hand_of y).name) (sym r.mine.at) ∙ r.mine.name;
@@ -147,6 +159,11 @@ module _ {G Op : Type 0} (c : Crew G Op) (l : Layout) (p : Place) (free : List �
         reading = subst (λ y. AllByRecursion (Rattle.flit_crew.specs.Heaps.IsOpen l free here) (Rattle.flit_crew.specs.Machines.reads_for y)) (sym at) tt;
         mine = subst (λ rows. AllByRecursion (IsMine l free here rows) r.actor.private) (sym steady.own) r.mine.mine;
         published = λ q t. r.mine.doing.0;
+        alone = λ one. record {
+          machine = subst (SeesNoTag p) (sym at) tt;
+          queued = ap (λ y. (hand_of y).tally.queued) at ∙ counted ∙ ap (λ y. (hand_of y).tally.queued) (sym r.mine.at) ∙ (r.mine.alone one).queued;
+          seen = (r.mine.alone one).seen;
+        };
         doing = (r.mine.doing.0, queue ∙ r.mine.doing.1, subst (λ n. n < words_of l) (sym word) r.mine.doing.2);
       })
       (rows_steady c.anatomy l free M.state.counter here a u w b steady holds.rows)
@@ -168,7 +185,8 @@ module _ {G Op : Type 0} (c : Crew G Op) (l : Layout) (p : Place) (free : List �
       (still c l p free keeps M a b name number m (Load m.word) holds (ap (λ x. evict_asks x m) at) refl (word_at M.state m.word) refl
       (ap (λ x. (evict_takes x m (word_at M.state m.word)).word) at) (ap (λ x. (evict_takes x m (word_at M.state m.word)).hand.queue) at)
       (ap (λ x. (evict_takes x m (word_at M.state m.word)).hand.name) at) (ap (λ x. (evict_takes x m (word_at M.state m.word)).hand.number) at)
-      (ap (λ x. (evict_takes x m (word_at M.state m.word)).hand.spare) at) (ap (λ x. (evict_takes x m (word_at M.state m.word)).hand.ticket) at))
+      (ap (λ x. (evict_takes x m (word_at M.state m.word)).hand.spare) at) (ap (λ x. (evict_takes x m (word_at M.state m.word)).hand.ticket) at)
+      (ap (λ x. (evict_takes x m (word_at M.state m.word)).hand.tally.queued) at))
   evict_steps (Evict_writes_back raw) at e q holds = subst (Swept c l p free keeps M a b name number m) (same_Some (Persist m.word (bare_of raw)) e q) swept
     where
       u : Worker Op
@@ -204,5 +222,6 @@ module _ {G Op : Type 0} (c : Crew G Op) (l : Layout) (p : Place) (free : List �
           refl
           (ap (λ x. (evict_takes x m (answer N.state d)).word) at) (ap (λ x. (evict_takes x m (answer N.state d)).hand.queue) at)
           (ap (λ x. (evict_takes x m (answer N.state d)).hand.name) at) (ap (λ x. (evict_takes x m (answer N.state d)).hand.number) at)
-          (ap (λ x. (evict_takes x m (answer N.state d)).hand.spare) at) (ap (λ x. (evict_takes x m (answer N.state d)).hand.ticket) at))
+          (ap (λ x. (evict_takes x m (answer N.state d)).hand.spare) at) (ap (λ x. (evict_takes x m (answer N.state d)).hand.ticket) at)
+          (ap (λ x. (evict_takes x m (answer N.state d)).hand.tally.queued) at))
   evict_steps Evict_done at e q holds = absurd (none_some e q)

@@ -40,11 +40,12 @@ use Rattle.flit_crew.specs.Machines.{Machine, Works, Making, Made, MakesAt, deed
 use Rattle.flit_crew.specs.Heaps.{Heap, heap_of, IsOpen, at_word, at_shadow, waits_at}
 use Rattle.flit_crew.specs.Anatomies.{deed, deed_by, op_taken, gone_on}
 use Rattle.flit_crew.specs.Accounts.{HasUpdate}
-use Rattle.flit_crew.specs.Crews.{Crew, Who, Holds, IsFurther}
+use Rattle.flit_crew.specs.Crews.{Crew, Who, Holds, IsFurther, Facts}
 use Rattle.flit_crew.specs.Obligations.{Keeps, IsAfter}
 use Rattle.flit_crew.proofs.Acting.{Split}
 use Rattle.flit_crew.proofs.WritingBack.{persisted}
-use Rattle.flit_crew.proofs.Going.{r, heap, me_now, sound_now, knows_now, update_now}
+use Rattle.flit_crew.proofs.FactsGoing.{reply_goes}
+use Rattle.flit_crew.proofs.Going.{r, heap, me_now, sound_now, knows_now, facts_now, update_now}
 use Rattle.flit_crew.proofs.Reading.{quietly, at_it, further, gone, Deeds, same_deeds}
 use Rattle.flit_crew.proofs.Standing.{deed_with}
 use Rattle.flit_crew.proofs.Stepping.{IsOn, fenced_on}
@@ -85,6 +86,8 @@ module _ {G Op : Type 0} (c : Crew G Op) (l : Layout) (p : Place) (free : List �
     pub reading : reads_for (run.takes p w 0) ≡ []
     -- its update stays where it is, or it was in this very word
     pub deeds : (working_deed (run.takes p w 0) ≡ working_deed w) ⊎ ((working_deed w ≡ Making word kept) × (working_deed (run.takes p w 0) ≡ Made))
+    pub facts : (h : Heap G) (me you : Who) → IsFurther me you → Facts c l p free h me op (Works w) →
+        Facts c l p free h you (c.anatomy.with_machine op (Works (run.takes p w 0))) (Works (run.takes p w 0))
     pub knows : (h : Heap G) (me you : Who) → c.kept h → IsFurther me you → kept ≤ at_shadow h word → c.knows h me op →
         c.knows h you (c.anatomy.with_machine op (Works (run.takes p w 0)))
 
@@ -112,6 +115,14 @@ module _ {G Op : Type 0} (c : Crew G Op) (l : Layout) (p : Place) (free : List �
       (at_it c l p free keeps N a name number op call begun b holds_now k settled w is) mine.mine.reached)))
       (subst (λ x. AllByRecursion (IsOpen l free here) (reads_for x)) (sym taken) (subst (AllByRecursion (IsOpen l free here)) (sym f.reading) tt))
       (ap (λ s. s.counter) again) deeds_now
+      (subst (λ x. Facts c l p free here (me_now c l p free keeps N a name number op call begun b holds_now k settled
+      (gone c l p free keeps N a name number op call begun b holds_now k settled e [])) (c.anatomy.with_machine op (Works x)) (Works x)) (sym taken)
+      (f.facts here (me_now c l p free keeps N a name number op call begun b holds_now k settled mine.actor)
+      (me_now c l p free keeps N a name number op call begun b holds_now k settled
+      (gone c l p free keeps N a name number op call begun b holds_now k settled e []))
+      (further c l p free keeps N a name number op call begun b holds_now k settled e [])
+      (subst (Facts c l p free here (me_now c l p free keeps N a name number op call begun b holds_now k settled mine.actor) op) is
+      (facts_now c l p free keeps N a name number op call begun b holds_now k settled))))
       (subst (λ x. c.knows here (me_now c l p free keeps N a name number op call begun b holds_now k settled
       (gone c l p free keeps N a name number op call begun b holds_now k settled e [])) (c.anatomy.with_machine op (Works x))) (sym taken)
       (f.knows here (me_now c l p free keeps N a name number op call begun b holds_now k settled mine.actor)
@@ -247,6 +258,7 @@ module _ {G Op : Type 0} (c : Crew G Op) (l : Layout) (p : Place) (free : List �
         goes = λ h o. tt;
         reading = refl;
         deeds = inl refl;
+        facts = λ h me you on x. reply_goes c l p free keeps op m is h me you on x;
         knows = λ h me you kept on le known. keeps.steady h me you op (Works (Completes (complete_taken m 0))) (0, ap (λ x. machine_takes p free x 0) (sym is))
             kept on (sym (ap part_of is)) known;
       }
@@ -270,6 +282,7 @@ module _ {G Op : Type 0} (c : Crew G Op) (l : Layout) (p : Place) (free : List �
             (subst (λ x. AllByRecursion (IsOpen l free h) (run.exchange_goes_for x m.word)) at o);
         reading = ap reads_for (taken 0);
         deeds = inr (ap (λ x. exchange_deed x m) at, ap working_deed (taken 0));
+        facts = λ h me you on x. subst (λ y. Facts c l p free h you (c.anatomy.with_machine op (Works y)) (Works y)) (sym (taken 0)) tt;
         knows = λ h me you kept on le known. subst (λ x. c.knows h you (c.anatomy.with_machine op (Works x))) (sym (taken 0))
             (keeps.writes h me you op m kept on is at le known);
       }

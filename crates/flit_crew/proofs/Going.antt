@@ -1,13 +1,13 @@
--- A call goes on by its own event, where that leaves the heap as it was: its machine is further on, or has ended, and
--- then the next one starts.
-use Rattle.std.proofs.Common.{◌≡◌, ℕ, ◌≤◌, ◌&&◌, not, Bool, true, false, List, [], ◌∷◌, ◌++◌, length, Option, Some, None, is_none, refl, sym, ◌∙◌, ap, subst, if◌then◌else◌, arith}
-use Rattle.std.specs.Prelude.{Contains}
+-- A call that is about to go on: what is known of it, its machine and its tags; and what is to be shown of an event that
+-- leaves the heap as it was.
+use Rattle.std.proofs.Common.{◌≡◌, inl, inr, ⊎_elim, ℕ, suc, ◌+◌, ◌<◌, ◌≤◌, ◌&&◌, not, Bool, true, false, List, [], ◌∷◌, ◌++◌, length, count_by, Option, Some, None, is_none, refl, sym, ◌∙◌, ap, subst, if◌then◌else◌, arith}
 use Rattle.std.specs.List.{AllByRecursion}
 use Rattle.flit_words.specs.declared.layouts.Layout.{Layout}
 use Rattle.flit_words.specs.Layouts.{words_of}
-use Rattle.flit_words.specs.Words.{is_tagged}
-use Rattle.flit_model.specs.States.{State}
-use Rattle.flit_model.specs.Effects.{after}
+use Rattle.flit_words.specs.Words.{is_tagged, bare_of}
+use Rattle.flit_model.specs.States.{State, word_at, count_at}
+use Rattle.flit_model.proofs.Elements.{all_weaker}
+use Rattle.flit_model.specs.Effects.{after, answer}
 use Rattle.flit_model.specs.declared.events.Event.{Event}
 use Rattle.flit_model.specs.declared.calls.Call.{Call}
 use Rattle.flit_place.specs.Tags.{Place}
@@ -20,26 +20,29 @@ use Rattle.flit_pv.specs.Hands.{with_queued, with_omitted}
 use Rattle.flit_runs.specs.Workings as run
 use Rattle.flit_runs.specs.Workings.{Working, Idles, Loads, VLoads, Confirms, Exchanges, VExchanges, Stores, Fences, Completes, Evicts, leaves, confirms, goes_for}
 use Rattle.flit_runs.specs.Worlds.{Actor, world_of, writings, Seen, Sees, gone_on as actor_gone, event}
-use Rattle.flit_runs.specs.Soundness.{IsSound}
-use Rattle.flit_runs.proofs.Turns.{sound-turn, safe}
+use Rattle.flit_place.specs.Covers.{holds_up}
+use Rattle.flit_runs.specs.Soundness.{IsSound, IsPWord}
+use Rattle.flit_runs.proofs.Turns.{sound-turn, safe, holds as run_holds}
+use Rattle.std.proofs.lemmas.Bool.{cases_lt}
+use Rattle.std.proofs.lemmas.List.{get_or_past, length-append}
 use Rattle.flit_runs.proofs.ExchangeSteps.{around}
 use Rattle.flit_structure.specs.declared.workers.Worker.{Worker}
 use Rattle.flit_structure.specs.Moments.{Moment, with_workers, busy}
 use Rattle.flit_structure.specs.Meanings.{first_at}
 use Rattle.flit_structure.proofs.Names.{all_both}
-use Rattle.flit_crew.specs.Machines.{Machine, Works, Takes, Fresh, MakesAt, working_in, hand_in, hand_of, has_ended, is_complete, reads_for}
-use Rattle.flit_crew.specs.Heaps.{Heap, heap_of, IsOpen, IsShut, IsMine, AreOld}
-use Rattle.flit_crew.specs.Anatomies.{own, own_in, deed, gone_on, gone_by}
-use Rattle.flit_crew.specs.Accounts.{HasUpdate, Rows, History, IsSteady}
-use Rattle.flit_crew.specs.Crews.{Crew, Who, AllAct, Holds, IsBusy, StandsRight, who_of, left}
+use Rattle.flit_crew.specs.Machines.{Machine, Works, Takes, Tags, SeesNoTag, Fresh, working_in, hand_of, has_ended, is_complete, reads_for}
+use Rattle.flit_crew.specs.Heaps.{Heap, heap_of, IsOpen, IsShut, IsMine}
+use Rattle.flit_crew.specs.Anatomies.{own, deed}
+use Rattle.flit_crew.specs.Accounts.{IsAny, HasUpdate, Rows, History}
+use Rattle.flit_crew.specs.Crews.{Crew, Who, AllAct, Holds, IsBusy, IsAlone, Facts, who_of}
 use Rattle.flit_crew.specs.Obligations.{Keeps, IsAfter}
-use Rattle.flit_crew.proofs.Changes.{sound_leaves}
-use Rattle.flit_crew.proofs.Publishing.{Published, published_now, all_published, further_published}
+use Rattle.flit_crew.proofs.Tagging.{TagsGo, tags_event}
+use Rattle.flit_crew.proofs.Alone.{alone_event, alone_sees, unwritten_tags}
+use Rattle.flit_crew.proofs.Knowing.{facts_more}
 use Rattle.flit_crew.proofs.Acting.{Split, shut_of}
-use Rattle.flit_crew.proofs.Accounting.{rows_steady, history_steady}
-use Rattle.flit_crew.proofs.Owning.{old_needs, IsOwn, own_row, own_away, lower}
-use Rattle.flit_crew.proofs.Moving.{h, mine, is_sound, moved_still}
-use Rattle.flit_crew.proofs.Arriving.{arrives, Arrived, IsSame, resting}
+use Rattle.flit_crew.proofs.Counting.{workers_few, names_within}
+use Rattle.flit_crew.proofs.Moving.{h, mine, is_sound}
+use Rattle.flit_crew.proofs.Arriving.{IsSame}
 
 is_none_so : (o : Option Event) → is_none o ≡ true → o ≡ None
 is_none_so None e = refl
@@ -78,6 +81,13 @@ leaves_same (Completes m) = same m.fence.hand
 leaves_same (Evicts m) = same m.hand
 
 module _ {G Op : Type 0} (c : Crew G Op) (l : Layout) (p : Place) (free : List ℕ) where
+  pub alone_same : (g y : Actor) → y.at ≡ g.at → y.seen ≡ g.seen → IsAlone c l p free g → IsAlone c l p free y
+  alone_same g y at seen k = record {
+    machine = subst (SeesNoTag p) (sym at) k.machine;
+    queued = ap (λ x. (hand_of x).tally.queued) at ∙ k.queued;
+    seen = λ counted. subst (AllByRecursion (λ x. is_tagged x.raw ≡ false)) (sym seen) (k.seen counted);
+  }
+
   pub all_shut : (k : Heap G) (us : List (Worker Op)) (gs : List Actor) → AllAct c l p free k us gs →
       AllByRecursion (λ o. AllByRecursion (IsShut l free k) o.private) gs
   all_shut k [] [] m = tt
@@ -129,6 +139,10 @@ module _ {G Op : Type 0} (c : Crew G Op) (l : Layout) (p : Place) (free : List �
             (keeps.begins heap (who_of name number call (Some k) r.actor) x.0 holds.kept busy_now.served settled x.2)
         by_begun (Some n) same waits knows = knows
 
+    -- what is true of its machine, as of then
+    pub facts_now : Facts c l p free heap (me_now r.actor) op (c.anatomy.machine op)
+    facts_now = facts_more c l p free heap (who_of name number call begun r.actor) (me_now r.actor) op refl (λ w v n. n) (c.anatomy.machine op) busy_now.facts
+
     -- and where its update is as of then
     pub update_now : HasUpdate heap name number call (first_at k begun) (deed c.anatomy op)
     update_now = by_begun begun busy_now.waits busy_now.update
@@ -149,6 +163,86 @@ module _ {G Op : Type 0} (c : Crew G Op) (l : Layout) (p : Place) (free : List �
         (world_of (after M.state e) r.before (actor_gone p M.state e news r.actor) r.behind)
         (event M.state r.before r.actor r.behind e news asked sees) sound_now
 
+    -- the tags after its event
+    pub tags_now : (e : Event) → run.asks p r.actor.at ≡ Some e → TagsGo p M.state (after M.state e) r.actor.at (run.takes p r.actor.at (answer M.state e))
+    tags_now e asked =
+        let mine_safe = safe p (λ word. false) M.state r.before r.actor r.behind sound_now in
+        tags_event p M.state sound_now.suits.slots r.actor.private
+        (all_weaker (IsPWord (λ x. false) M.state) (λ w. w < length M.state.words) (λ w k. k.0) r.actor.private mine_safe.plain)
+        (around (writings r.before) (run.writing_at r.actor.at) (writings r.behind)) r.actor.at mine_safe.knows e asked
+
+    -- where it is the only one no tag shows
+    only_one : l.workers ≡ 1 → (r.before ≡ []) × (r.behind ≡ [])
+    only_one one =
+        let few : length (a ++ u ∷ b) ≤ l.workers = workers_few l.workers (a ++ u ∷ b) holds.different (names_within c l p free heap (a ++ u ∷ b) holds.actors
+        holds.acts) in
+        let e = nobody_else a b u (subst (λ n. length (a ++ u ∷ b) ≤ n) one few) in
+        (no_actors heap a r.before r.left e.0, no_actors heap b r.behind r.right e.1)
+      where
+        no_actors : (h : Heap G) (us : List (Worker Op)) (gs : List Actor) → AllAct c l p free h us gs → us ≡ [] → gs ≡ []
+        no_actors h [] [] k e = refl
+        no_actors h [] (g ∷ gs) k e = absurd k
+        no_actors h (v ∷ us) gs k e = absurd (clash v us e)
+          where
+            clash : (v : Worker Op) (us : List (Worker Op)) → v ∷ us ≡ [] → ⊥
+            clash v us e = cc
+
+        nobody_else : (a b : List (Worker Op)) (u : Worker Op) → length (a ++ u ∷ b) ≤ 1 → (a ≡ []) × (b ≡ [])
+        nobody_else [] [] u le = (refl, refl)
+        nobody_else [] (x ∷ b) u le = absurd (more (length b) le)
+          where
+            more : (n : ℕ) → suc (suc n) ≤ 1 → ⊥
+            more n i = omega (arith, i)
+        nobody_else (x ∷ a) b u le = absurd (more (length a) (length b) (length (a ++ u ∷ b)) (length-append a (u ∷ b)) le)
+          where
+            more : (m n k : ℕ) → k ≡ m + suc n → suc k ≤ 1 → ⊥
+            more m n k e i = omega (arith, e, i)
+
+    none_written : l.workers ≡ 1 → run.writing_at r.actor.at ≡ None → around (writings r.before) (run.writing_at r.actor.at) (writings r.behind) ≡ []
+    none_written one none = ap (λ w. around (writings r.before) w (writings r.behind)) none
+        ∙ ap (λ xs. around (writings xs) None (writings r.behind)) (only_one one).0 ∙ ap (λ ys. around [] None (writings ys)) (only_one one).1
+
+    no_count : l.workers ≡ 1 → run.writing_at r.actor.at ≡ None → (slot : ℕ) → count_at M.state slot ≡ 0
+    no_count one none slot = ⊎_elim
+        (λ below. (run_holds p (λ word. false) M.state r.before r.actor r.behind sound_now).covers.counts slot below
+        ∙ ap (count_by (holds_up p.slot slot)) (none_written one none))
+        (λ le. get_or_past M.state.slots slot 0 le) (cases_lt slot (length M.state.slots))
+
+    no_tag : l.workers ≡ 1 → run.writing_at r.actor.at ≡ None → p.counted ≡ false → (v : ℕ) → is_tagged (word_at M.state v) ≡ false
+    no_tag one none counted v = by_test (is_tagged (word_at M.state v)) refl
+      where
+        mine_alone : (gs hs : List Actor) → gs ≡ [] → hs ≡ [] → IsAny (λ g. Tags v (bare_of (word_at M.state v)) g.at) (gs ++ r.actor ∷ hs) →
+            Tags v (bare_of (word_at M.state v)) r.actor.at
+        mine_alone [] [] e d (inl k) = k
+        mine_alone [] [] e d (inr k) = absurd k
+        mine_alone [] (x ∷ hs) e d k = absurd (cc)
+        mine_alone (x ∷ gs) hs e d k = absurd (cc)
+
+        by_test : (t : Bool) → is_tagged (word_at M.state v) ≡ t → is_tagged (word_at M.state v) ≡ false
+        by_test false q = q
+        by_test true q = absurd (unwritten_tags r.actor.at none v (bare_of (word_at M.state v)) (mine_alone r.before r.behind (only_one one).0 (only_one one).1
+            (subst (IsAny (λ g. Tags v (bare_of (word_at M.state v)) g.at)) r.is (holds.tagged counted v q))))
+
+    pub alone_now : (e : Event) (news : List Seen) → run.asks p r.actor.at ≡ Some e →
+        AllByRecursion (Sees (λ word. false) M.state (r.before ++ r.actor ∷ r.behind) r.actor.at) news → l.workers ≡ 1 →
+        IsAlone c l p free (actor_gone p M.state e news r.actor)
+    alone_now e news asked sees one =
+        let mine_safe = safe p (λ word. false) M.state r.before r.actor r.behind sound_now in
+        let was = r.mine.alone one in
+        let ws = around (writings r.before) (run.writing_at r.actor.at) (writings r.behind) in
+        let k = alone_event p M.state sound_now.suits.slots r.actor.private ws r.actor.at (no_count one)
+        (no_tag one) mine_safe.pairs mine_safe.knows was.machine e
+        asked in
+        record {
+          machine = k.0;
+          queued = k.1 ∙ was.queued;
+          seen = λ counted. all_both (λ x. is_tagged x.raw ≡ false) news r.actor.seen
+              (all_weaker (Sees (λ word. false) M.state (r.before ++ r.actor ∷ r.behind) r.actor.at) (λ x. is_tagged x.raw ≡ false)
+              (λ x h. alone_sees p M.state (r.before ++ r.actor ∷ r.behind) r.actor.private ws r.actor.at mine_safe.knows
+              (λ none. no_tag one none counted) x h) news
+              sees) (was.seen counted);
+        }
+
     abbrev pub Gone : State → Op → Type 0
     Gone s next = let N : Moment Op = record M { state = s } in Holds c l p free (with_workers N (a ++ busy name number next call now ∷ b))
 
@@ -166,112 +260,10 @@ module _ {G Op : Type 0} (c : Crew G Op) (l : Layout) (p : Place) (free : List �
       pub reached : AllByRecursion (IsOpen l free heap) (goes_for g.at)
       pub reading : AllByRecursion (IsOpen l free heap) (reads_for g.at)
       pub mine : AllByRecursion (IsMine l free heap (own c.anatomy (c.anatomy.with_machine op m))) g.private
-      pub right : StandsRight c l p free m
+      pub facts : Facts c l p free heap (me_now g) (c.anatomy.with_machine op m) m
+      pub tags : TagsGo p M.state s r.actor.at g.at
+      pub alone : l.workers ≡ 1 → IsAlone c l p free g
       pub update : HasUpdate heap name number call (first_at k begun) (deed c.anatomy (c.anatomy.with_machine op m))
       pub rows : Rows c.anatomy l free s.counter heap (a ++ busy name number (c.anatomy.with_machine op m) call now ∷ b)
       pub history : History c.anatomy l free heap (a ++ busy name number (c.anatomy.with_machine op m) call now ∷ b)
       pub knows : c.knows heap (me_now g) (c.anatomy.with_machine op m)
-
-    some_none : (n : ℕ) → ◌≡◌ {A = Option ℕ} (Some n) None → ⊥
-    some_none n e = cc
-
-    still_going : (s : State) (g : Actor) (m : Machine) → Went s g m → has_ended p m ≡ false → Gone s (c.anatomy.with_machine op m)
-    still_going s g m w going = moved_still c l p free keeps M a u b holds s (busy name number (c.anatomy.with_machine op m) call now) (published g w).actor
-        refl w.words w.slots (published g w).sound w.same
-        (record {
-          at = (published g w).at ∙ w.at ∙ ap working_in (sym (keeps.put op m w.after_it));
-          name = ap (λ y. (hand_of y).name) (published g w).at ∙ w.name_same;
-          number = ap (λ y. (hand_of y).number) (published g w).at ∙ w.number_same;
-          least = r.mine.least;
-          most = r.mine.most;
-          reached = subst (λ y. AllByRecursion (IsOpen l free heap) (goes_for y)) (sym (published g w).at) w.reached;
-          reading = subst (λ y. AllByRecursion (IsOpen l free heap) (reads_for y)) (sym (published g w).at) w.reading;
-          mine = all_published p s r.before g r.behind (IsMine l free heap (own c.anatomy (c.anatomy.with_machine op m))) (published g w) w.mine;
-          published = (published g w).published;
-          doing = record {
-            same_call = keeps.put_call op m w.after_it ∙ busy_now.same_call;
-            served = busy_now.served;
-            first = since;
-            waits = λ e. absurd (some_none (first_at k begun) e);
-            right = subst (StandsRight c l p free) (sym (keeps.put op m w.after_it)) w.right;
-            going = ap (has_ended p) (keeps.put op m w.after_it) ∙ going;
-            update = w.update;
-            knows = keeps.more heap (me_now g) (me_now (published g w).actor) (c.anatomy.with_machine op m) holds.kept
-                (further_published p s r.before g r.behind name number call now (published g w)) w.knows;
-          };
-        }) w.rows w.history
-      where
-        published : (y : Actor) → Went s y m → Published p s r.before y r.behind
-        published y v = published_now p s r.before y r.behind v.sound
-
-    goes_over : (s : State) (g : Actor) (m : Machine) → Went s g m → has_ended p m ≡ true → Gone s (c.anatomy.resumed op m)
-    goes_over s g m w ended =
-        let me : Who = left c l p free (me_now g) (working_in m) in
-        let hand : Hand = leaves (working_in m) in
-        let with : Op = c.anatomy.with_machine op m in
-        let over : Op = c.anatomy.resumed op m in
-        let asks : run.asks p g.at ≡ None = ap (run.asks p) w.at ∙ ended_asks p m ended in
-        let rests : IsSound p (λ word. false) (world_of s r.before (resting me hand) r.behind) =
-        subst (λ x. let v : Actor = record { at = Idles (leaves x); needs = confirms x ++ g.needs; seen = g.seen; private = g.private } in
-        IsSound p (λ word. false) (world_of s r.before v r.behind)) w.at
-        (sound_leaves p (λ word. false) s r.before g r.behind asks w.sound) in
-        let call_now = keeps.put_call op m w.after_it ∙ busy_now.same_call in
-        let old : AreOld heap g.needs = old_needs p (λ word. false) s (around (writings r.before) (run.writing_at g.at) (writings r.behind)) heap g
-        w.sound.words (ap (λ x. x.words) w.same) (safe p (λ word. false) s r.before g r.behind w.sound) in
-        let goes = keeps.resumes heap (me_now g) op m w.after_it holds.kept busy_now.served since old busy_now.same_call ended w.knows in
-        let coherent = keeps.coherent heap (me_now g) op m w.after_it holds.kept busy_now.same_call ended w.knows in
-        let n = leaves_same (working_in m) in
-        let others = all_both (λ o. AllByRecursion (IsShut l free heap) o.private) r.before r.behind (all_shut heap a r.before r.left)
-        (all_shut heap b r.behind r.right) in
-        let own_is : (row : ℕ) → Contains (own c.anatomy over) row → IsOwn (λ v. own_in c.anatomy v.doing) free holds.given a b row =
-        λ row k. own_row (λ v. own_in c.anatomy v.doing) free s.counter holds.given a (busy name number with call now) b row (lower free holds.pool.rising)
-        w.rows.dealt (subst (λ rows. Contains rows row) coherent.own k) in
-        let x : Arrived c l p free heap s w.words (ap (λ y. y.words) w.same) r.before r.behind others over
-        (λ row k. ((own_is row k).pool, (own_is row k).unlinked)) (λ row v k of. own_away c l p free heap holds.pool a b r.before r.behind r.left r.right
-        row v (own_is row k) of) me hand =
-        arrives c l p free heap s w.words (ap (λ y. y.words) w.same) r.before r.behind others over (λ row k. ((own_is row k).pool, (own_is row k).unlinked))
-        (λ row v k of. own_away c l p free heap holds.pool a b r.before r.behind r.left r.right row v (own_is row k) of) me hand
-        (subst (λ rows. AllByRecursion (IsMine l free heap rows) g.private) (sym coherent.own) w.mine) rests goes in
-        let y : Published p s r.before x.actor r.behind = published_now p s r.before x.actor r.behind x.sound in
-        let steady : IsSteady c.anatomy l heap (busy name number with call now) (busy name number over call now) = record {
-          own = coherent.own;
-          ticket = ap (λ y. (hand_of y).ticket) (sym x.at) ∙ x.ticket ∙ n.ticket ∙ ap (λ y. (hand_in y).ticket) (sym (keeps.put op m w.after_it));
-          tight = coherent.tight;
-          makes = λ word e is q. (subst (λ d. MakesAt d word) (sym coherent.deed) q.0, q.1);
-        } in
-        moved_still c l p free keeps M a u b holds s (busy name number over call now) y.actor refl w.words w.slots y.sound w.same
-        (record {
-          at = y.at ∙ x.at;
-          name = ap (λ z. (hand_of z).name) y.at ∙ x.name ∙ n.name ∙ ap (λ y. (hand_of y).name) (sym w.at) ∙ w.name_same;
-          number = ap (λ z. (hand_of z).number) y.at ∙ x.number ∙ n.number ∙ ap (λ y. (hand_of y).number) (sym w.at) ∙ w.number_same;
-          least = r.mine.least;
-          most = r.mine.most;
-          reached = subst (λ z. AllByRecursion (IsOpen l free heap) (goes_for z)) (sym y.at) x.reached;
-          reading = subst (λ z. AllByRecursion (IsOpen l free heap) (reads_for z)) (sym y.at) x.reading;
-          mine = all_published p s r.before x.actor r.behind (IsMine l free heap (own c.anatomy over)) y x.mine;
-          published = y.published;
-          doing = record {
-            same_call = x.same_call;
-            served = busy_now.served;
-            first = since;
-            waits = λ e. absurd (some_none (first_at k begun) e);
-            right = x.right;
-            going = x.going;
-            update = subst (λ d. HasUpdate heap name number call (first_at k begun) d) (sym coherent.deed) w.update;
-            knows = keeps.more heap (me_now x.actor) (me_now y.actor) over holds.kept (further_published p s r.before x.actor r.behind name number call now y)
-                x.knows;
-          };
-        })
-        (rows_steady c.anatomy l free s.counter heap a (busy name number with call now) (busy name number over call now) b steady w.rows)
-        (history_steady c.anatomy l free heap a (busy name number with call now) (busy name number over call now) b refl (same_le number) steady.makes
-        w.history)
-      where
-        same_le : (n : ℕ) → n ≤ n
-        same_le n = omega arith
-
-    pub went : (s : State) (g : Actor) (m : Machine) → Went s g m → Gone s (gone_on c.anatomy p op m)
-    went s g m w = by_end (has_ended p m) refl
-      where
-        by_end : (t : Bool) → has_ended p m ≡ t → Gone s (gone_by c.anatomy t op m)
-        by_end true e = goes_over s g m w e
-        by_end false e = still_going s g m w e

@@ -1,5 +1,5 @@
--- A call goes on by its own event, where that changes the heap: its machine is further on, or has ended with the event,
--- and then the next one starts in the heap after it.
+-- A call goes on by its own event: its machine is further on, or has ended with the event, and then the next one starts in
+-- the heap after it.
 use Rattle.std.proofs.Common.{◌≡◌, ℕ, ◌≤◌, Bool, true, false, List, ◌∷◌, ◌++◌, length, Option, Some, None, refl, sym, ◌∙◌, ap, subst, arith}
 use Rattle.std.specs.Prelude.{Contains}
 use Rattle.std.specs.List.{AllByRecursion}
@@ -19,22 +19,28 @@ use Rattle.flit_runs.specs.Soundness.{IsSound}
 use Rattle.flit_structure.specs.declared.workers.Worker.{Worker}
 use Rattle.flit_structure.specs.Moments.{Moment, with_workers, busy}
 use Rattle.flit_structure.specs.Meanings.{first_at}
+use Rattle.flit_place.proofs.Splits.{all_middle}
 use Rattle.flit_structure.proofs.Names.{all_both}
-use Rattle.flit_crew.specs.Machines.{Machine, MakesAt, working_in, hand_in, hand_of, has_ended, reads_for}
+use Rattle.flit_crew.specs.Machines.{Machine, SeesNoTag, MakesAt, working_in, hand_in, hand_of, has_ended, reads_for}
 use Rattle.flit_crew.specs.Heaps.{Heap, heap_of, IsOpen, IsShut, IsMine, AreOld}
 use Rattle.flit_crew.specs.Anatomies.{own, own_in, deed, gone_on, gone_by}
-use Rattle.flit_crew.specs.Accounts.{HasUpdate, Rows, History, IsSteady}
-use Rattle.flit_crew.specs.Crews.{Crew, Who, AllAct, Holds, StandsRight, left}
+use Rattle.flit_crew.specs.Accounts.{HasUpdate, Rows, History, IsSteady, IsTight, AreTight}
+use Rattle.flit_crew.specs.Crews.{Crew, Who, AllAct, Holds, IsAlone, Facts, OwnsRows, left}
 use Rattle.flit_crew.specs.Obligations.{Keeps, IsAfter}
-use Rattle.flit_crew.proofs.Changes.{sound_leaves}
+use Rattle.flit_runs.proofs.Changes.{sound_leaves}
+use Rattle.flit_crew.proofs.Tagging.{TagsGo, tags_over, ended_tags}
+use Rattle.flit_crew.proofs.Alone.{left_queued}
+use Rattle.flit_crew.proofs.Placing.{pool_fit}
+use Rattle.flit_crew.proofs.Knowing.{facts_more}
 use Rattle.flit_crew.proofs.Publishing.{Published, published_now, all_published, further_published}
-use Rattle.flit_crew.proofs.Acting.{Split, Moves, AllStay, through, all_last}
+use Rattle.flit_structure.proofs.Names.{others_new}
+use Rattle.flit_crew.proofs.Acting.{Split, Moves, AllStay, through, all_last, all_stay}
 use Rattle.flit_crew.proofs.Updating.{settled_longer}
 use Rattle.flit_crew.proofs.Accounting.{rows_steady, history_steady}
 use Rattle.flit_crew.proofs.Owning.{old_needs, IsOwn, own_row, own_away, lower}
-use Rattle.flit_crew.proofs.Moving.{moved}
+use Rattle.flit_crew.proofs.Moving.{moved, still_moves, old_left, old_right}
 use Rattle.flit_crew.proofs.Arriving.{arrives, Arrived, resting}
-use Rattle.flit_crew.proofs.Going.{r, heap, me_now, busy_now, since, leaves_same, ended_asks, all_shut}
+use Rattle.flit_crew.proofs.Going.{alone_same, r, heap, me_now, busy_now, since, leaves_same, ended_asks, all_shut, Went, Gone}
 
 module _ {G Op : Type 0} (c : Crew G Op) (l : Layout) (p : Place) (free : List ℕ) where
   module _ (keeps : Keeps c l p free) (M : Moment Op) (a : List (Worker Op)) (name number : ℕ) (op : Op) (call : Call) (begun : Option ℕ) (b : List (Worker Op))
@@ -75,7 +81,9 @@ module _ {G Op : Type 0} (c : Crew G Op) (l : Layout) (p : Place) (free : List �
       pub reached : AllByRecursion (IsOpen l free k) (goes_for g.at)
       pub reading : AllByRecursion (IsOpen l free k) (reads_for g.at)
       pub mine_now : AllByRecursion (IsMine l free k (own c.anatomy (c.anatomy.with_machine op m))) g.private
-      pub right : StandsRight c l p free m
+      pub facts : Facts c l p free k (me_as g) (c.anatomy.with_machine op m) m
+      pub tags : TagsGo p M.state s mine.actor.at g.at
+      pub alone : l.workers ≡ 1 → IsAlone c l p free g
       pub update : HasUpdate k name number call (first_at n begun) (deed c.anatomy (c.anatomy.with_machine op m))
       pub rows : Rows c.anatomy l free s.counter k (a ++ busy name number (c.anatomy.with_machine op m) call now ∷ b)
       pub history : History c.anatomy l free k (a ++ busy name number (c.anatomy.with_machine op m) call now ∷ b)
@@ -90,7 +98,8 @@ module _ {G Op : Type 0} (c : Crew G Op) (l : Layout) (p : Place) (free : List �
 
     still_going : (g : Actor) (m : Machine) → WentTo g m → has_ended p m ≡ false → GoneTo (c.anatomy.with_machine op m)
     still_going g m w going = moved c l p free keeps M a (busy name number op call begun) b holds s q given ghost
-        (busy name number (c.anatomy.with_machine op m) call now) (published g w).actor refl w.words w.slots (published g w).sound w.moves w.before w.behind
+        (busy name number (c.anatomy.with_machine op m) call now) (published g w).actor refl w.words w.slots (published g w).sound
+        (subst (TagsGo p M.state s mine.actor.at) (sym (published g w).at) w.tags) w.moves w.before w.behind
         (record {
           at = (published g w).at ∙ w.at ∙ ap working_in (sym (keeps.put op m w.after_it));
           name = ap (λ y. (hand_of y).name) (published g w).at ∙ w.name_same;
@@ -101,12 +110,15 @@ module _ {G Op : Type 0} (c : Crew G Op) (l : Layout) (p : Place) (free : List �
           reading = subst (λ y. AllByRecursion (IsOpen l free k) (reads_for y)) (sym (published g w).at) w.reading;
           mine = all_published p s mine.before g mine.behind (IsMine l free k (own c.anatomy (c.anatomy.with_machine op m))) (published g w) w.mine_now;
           published = (published g w).published;
+          alone = λ one. alone_same c l p free g (published g w).actor (published g w).at (published g w).seen (w.alone one);
           doing = record {
             same_call = keeps.put_call op m w.after_it ∙ (busy_now c l p free keeps M a name number op call begun b holds n settled).same_call;
             served = (busy_now c l p free keeps M a name number op call begun b holds n settled).served;
             first = since_now g m w;
             waits = λ e. absurd (some_none (first_at n begun) e);
-            right = subst (StandsRight c l p free) (sym (keeps.put op m w.after_it)) w.right;
+            facts = subst (Facts c l p free k (me_as (published g w).actor) (c.anatomy.with_machine op m)) (sym (keeps.put op m w.after_it))
+                (facts_more c l p free k (me_as g) (me_as (published g w).actor) (c.anatomy.with_machine op m) refl
+                (further_published p s mine.before g mine.behind name number call now (published g w)).needs m w.facts);
             going = ap (has_ended p) (keeps.put op m w.after_it) ∙ going;
             update = w.update;
             knows = keeps.more k (me_as g) (me_as (published g w).actor) (c.anatomy.with_machine op m) w.moves.is
@@ -128,11 +140,28 @@ module _ {G Op : Type 0} (c : Crew G Op) (l : Layout) (p : Place) (free : List �
         subst (λ x. let v : Actor = record { at = Idles (leaves x); needs = confirms x ++ g.needs; seen = g.seen; private = g.private } in
         IsSound p (λ word. false) (world_of s mine.before v mine.behind)) w.at
         (sound_leaves p (λ word. false) s mine.before g mine.behind asks w.sound) in
+        let alone : l.workers ≡ 1 → IsAlone c l p free (resting me hand) = λ one. record {
+          machine = tt;
+          queued = left_queued p (working_in m) (ended_asks p m ended) (subst (SeesNoTag p) w.at (w.alone one).machine)
+              ∙ ap (λ x. (hand_of x).tally.queued) (sym w.at) ∙ (w.alone one).queued;
+          seen = (w.alone one).seen;
+        } in
         let known = busy_now c l p free keeps M a name number op call begun b holds n settled in
         let old : AreOld k g.needs = old_needs p (λ word. false) s (around (writings mine.before) (run.writing_at g.at) (writings mine.behind)) k g
         w.sound.words refl (safe p (λ word. false) s mine.before g mine.behind w.sound) in
-        let goes = keeps.resumes k (me_as g) op m w.after_it w.moves.is known.served (since_now g m w) old known.same_call ended w.knows in
-        let coherent = keeps.coherent k (me_as g) op m w.after_it w.moves.is known.same_call ended w.knows in
+        let own_with : (row : ℕ) → Contains (own c.anatomy with) row → IsOwn (λ v. own_in c.anatomy v.doing) free given a b row =
+        λ row k. own_row (λ v. own_in c.anatomy v.doing) free s.counter given a (busy name number with call now) b row (lower free holds.pool.rising)
+        w.rows.dealt k in
+        let owns : OwnsRows c l p free k with m = record {
+          pool = λ row k. (own_with row k).pool;
+          fit = λ row k. pool_fit l free holds.pool row (own_with row k).pool;
+          unlinked = λ row k. (own_with row k).unlinked;
+          tight = subst (λ x. AreTight l (hand_in x).spare) (keeps.put op m w.after_it)
+              (all_middle (IsTight c.anatomy l) a (busy name number with call now) b w.rows.tight);
+        } in
+        let goes = keeps.resumes k (me_as g) op m w.after_it w.moves.is known.served mine.mine.most
+        ((leaves_same (working_in m)).name ∙ ap (λ y. (hand_of y).name) (sym w.at) ∙ w.name_same) (since_now g m w) old known.same_call ended w.facts owns w.knows in
+        let coherent = keeps.coherent k (me_as g) op m w.after_it w.moves.is known.same_call ended owns w.knows in
         let names = leaves_same (working_in m) in
         let left_now : AllAct c l p free k a mine.before = all_last c l p free keeps (Some name) here k w.moves a mine.before w.before mine.left in
         let right_now : AllAct c l p free k b mine.behind = all_last c l p free keeps (Some name) here k w.moves b mine.behind w.behind mine.right in
@@ -141,11 +170,12 @@ module _ {G Op : Type 0} (c : Crew G Op) (l : Layout) (p : Place) (free : List �
         let own_is : (row : ℕ) → Contains (own c.anatomy over) row → IsOwn (λ v. own_in c.anatomy v.doing) free given a b row =
         λ row has. own_row (λ v. own_in c.anatomy v.doing) free s.counter given a (busy name number with call now) b row (lower free holds.pool.rising)
         w.rows.dealt (subst (λ rows. Contains rows row) coherent.own has) in
-        let x : Arrived c l p free k s w.words refl mine.before mine.behind others over (λ row has. ((own_is row has).pool, (own_is row has).unlinked))
+        let x : Arrived c l p free k holds.accepted s w.words refl mine.before mine.behind others over
+        (λ row has. ((own_is row has).pool, (own_is row has).unlinked))
         (λ row v has of. own_away c l p free k holds.pool a b mine.before mine.behind left_now right_now row v (own_is row has) of) me hand =
-        arrives c l p free k s w.words refl mine.before mine.behind others over (λ row has. ((own_is row has).pool, (own_is row has).unlinked))
+        arrives c l p free k holds.accepted s w.words refl mine.before mine.behind others over (λ row has. ((own_is row has).pool, (own_is row has).unlinked))
         (λ row v has of. own_away c l p free k holds.pool a b mine.before mine.behind left_now right_now row v (own_is row has) of) me hand
-        (subst (λ rows. AllByRecursion (IsMine l free k rows) g.private) (sym coherent.own) w.mine_now) rests goes in
+        (subst (λ rows. AllByRecursion (IsMine l free k rows) g.private) (sym coherent.own) w.mine_now) rests alone goes in
         let y : Published p s mine.before x.actor mine.behind = published_now p s mine.before x.actor mine.behind x.sound in
         let steady : IsSteady c.anatomy l k (busy name number with call now) (busy name number over call now) = record {
           own = coherent.own;
@@ -154,7 +184,7 @@ module _ {G Op : Type 0} (c : Crew G Op) (l : Layout) (p : Place) (free : List �
           makes = λ word e is d. (subst (λ y. MakesAt y word) (sym coherent.deed) d.0, d.1);
         } in
         moved c l p free keeps M a (busy name number op call begun) b holds s q given ghost (busy name number over call now) y.actor refl w.words w.slots
-        y.sound w.moves w.before w.behind
+        y.sound (tags_over p M.state s mine.actor.at g.at y.actor.at (ended_tags p g.at asks) w.tags) w.moves w.before w.behind
         (record {
           at = y.at ∙ x.at;
           name = ap (λ z. (hand_of z).name) y.at ∙ x.name ∙ names.name ∙ ap (λ y. (hand_of y).name) (sym w.at) ∙ w.name_same;
@@ -165,12 +195,14 @@ module _ {G Op : Type 0} (c : Crew G Op) (l : Layout) (p : Place) (free : List �
           reading = subst (λ z. AllByRecursion (IsOpen l free k) (reads_for z)) (sym y.at) x.reading;
           mine = all_published p s mine.before x.actor mine.behind (IsMine l free k (own c.anatomy over)) y x.mine;
           published = y.published;
+          alone = λ one. alone_same c l p free x.actor y.actor y.at y.seen (x.alone one);
           doing = record {
             same_call = x.same_call;
             served = known.served;
             first = since_now g m w;
             waits = λ e. absurd (some_none (first_at n begun) e);
-            right = x.right;
+            facts = facts_more c l p free k (me_as x.actor) (me_as y.actor) over refl
+                (further_published p s mine.before x.actor mine.behind name number call now y).needs (c.anatomy.machine over) x.facts;
             going = x.going;
             update = subst (λ d. HasUpdate k name number call (first_at n begun) d) (sym coherent.deed) w.update;
             knows = keeps.more k (me_as x.actor) (me_as y.actor) over w.moves.is (further_published p s mine.before x.actor mine.behind name number call now y)
@@ -189,3 +221,40 @@ module _ {G Op : Type 0} (c : Crew G Op) (l : Layout) (p : Place) (free : List �
         by_end : (t : Bool) → has_ended p m ≡ t → GoneTo (gone_by c.anatomy t op m)
         by_end true e = goes_over g m w e
         by_end false e = still_going g m w e
+
+  -- where the event leaves the heap as it was
+  module _ (keeps : Keeps c l p free) (M : Moment Op) (a : List (Worker Op)) (name number : ℕ) (op : Op) (call : Call) (begun : Option ℕ) (b : List (Worker Op))
+      (holds : Holds c l p free (with_workers M (a ++ busy name number op call begun ∷ b))) (n : ℕ) (settled : n ≤ length M.progress.settled) where
+    pub went : (s : State) (g : Actor) (m : Machine) → Went c l p free keeps M a name number op call begun b holds n settled s g m →
+        Gone c l p free keeps M a name number op call begun b holds n settled s (gone_on c.anatomy p op m)
+    went s g m w =
+        let u : Worker Op = busy name number op call begun in
+        let v : Worker Op = busy name number (c.anatomy.with_machine op m) call (Some (first_at n begun)) in
+        let h : Heap G = heap c l p free keeps M a name number op call begun b holds n settled in
+        let x = r c l p free keeps M a name number op call begun b holds n settled in
+        let new = others_new a b u holds.different in
+        let me = me_now c l p free keeps M a name number op call begun b holds n settled g in
+        went_to keeps M a name number op call begun b holds n settled s M.progress holds.given holds.ghost g m (record {
+          after_it = w.after_it;
+          words = w.words;
+          slots = w.slots;
+          moves = subst (Moves c l p free (Some name) h) w.same (still_moves c l p free keeps M a u b holds);
+          before = subst (λ k. AllStay c l p free (Some name) h k a x.before) w.same
+              (all_stay c l p free h name a x.before new.0 (old_left c l p free keeps M a u b holds) x.left);
+          behind = subst (λ k. AllStay c l p free (Some name) h k b x.behind) w.same
+              (all_stay c l p free h name b x.behind new.1 (old_right c l p free keeps M a u b holds) x.right);
+          sound = w.sound;
+          at = w.at;
+          name_same = w.name_same;
+          number_same = w.number_same;
+          reached = subst (λ k. AllByRecursion (IsOpen l free k) (goes_for g.at)) w.same w.reached;
+          reading = subst (λ k. AllByRecursion (IsOpen l free k) (reads_for g.at)) w.same w.reading;
+          mine_now = subst (λ k. AllByRecursion (IsMine l free k (own c.anatomy (c.anatomy.with_machine op m))) g.private) w.same w.mine;
+          facts = subst (λ k. Facts c l p free k me (c.anatomy.with_machine op m) m) w.same w.facts;
+          tags = w.tags;
+          alone = w.alone;
+          update = subst (λ k. HasUpdate k name number call (first_at n begun) (deed c.anatomy (c.anatomy.with_machine op m))) w.same w.update;
+          rows = subst (λ k. Rows c.anatomy l free s.counter k (a ++ v ∷ b)) w.same w.rows;
+          history = subst (λ k. History c.anatomy l free k (a ++ v ∷ b)) w.same w.history;
+          knows = subst (λ k. c.knows k me (c.anatomy.with_machine op m)) w.same w.knows;
+        })

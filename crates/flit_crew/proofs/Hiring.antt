@@ -18,16 +18,19 @@ use Rattle.flit_structure.proofs.Names.{all_swap, different_swap}
 use Rattle.flit_crew.specs.Heaps.{Heap, heap_of}
 use Rattle.flit_crew.specs.Anatomies.{own_in, hand_at}
 use Rattle.flit_crew.specs.Rows.{times, own_times, own_many}
+use Rattle.flit_words.specs.Words.{bare_of}
+use Rattle.flit_model.specs.States.{word_at}
+use Rattle.flit_crew.specs.Machines.{Tags}
 use Rattle.flit_crew.specs.Accounts.{IsAny, IsTight, HasNumber, IsMaker}
 use Rattle.flit_crew.specs.Crews.{Crew, Acts, AllAct, Holds}
 use Rattle.flit_crew.proofs.Acting.{join_acts}
-use Rattle.flit_crew.proofs.Changes.{sound_hires, sound_swap}
+use Rattle.flit_runs.proofs.Changes.{sound_hires, sound_swap}
 use Rattle.flit_crew.proofs.Counting.{workers_few, names_within}
 
-none_spare : (k : Kind) → rows_in (drop (rows_needed k) (0 ∷ 0 ∷ [])) ≡ []
-none_spare List_kind = refl
-none_spare Hash = refl
-none_spare Tree = refl
+none_spare : (k : Kind) → (rows_needed k ≤ 2) × (rows_in (drop (rows_needed k) (0 ∷ 0 ∷ [])) ≡ [])
+none_spare List_kind = (omega arith, refl)
+none_spare Hash = (omega arith, refl)
+none_spare Tree = (omega arith, refl)
 
 pub same_number : {G Op : Type 0} (c : Crew G Op) (l : Layout) (p : Place) (free : List ℕ) (h : Heap G) (us : List (Worker Op)) (gs : List Actor) →
     AllAct c l p free h us gs → length gs ≡ length us
@@ -48,6 +51,7 @@ module _ {G Op : Type 0} (c : Crew G Op) (l : Layout) (p : Place) (free : List �
     words = holds.words;
     slots = holds.slots;
     sound = sound_hires p (λ word. false) M.state holds.actors (first_hand name) refl few holds.sound;
+    tagged = λ counted word tag. inr (holds.tagged counted word tag);
     kept = holds.kept;
     acts = (mine, holds.acts);
     rows = record {
@@ -87,6 +91,7 @@ module _ {G Op : Type 0} (c : Crew G Op) (l : Layout) (p : Place) (free : List �
         reading = tt;
         mine = tt;
         published = λ q t. refl;
+        alone = λ one. record { machine = tt; queued = refl; seen = λ counted. tt };
         doing =
             (refl, refl);
       }
@@ -161,20 +166,20 @@ module _ {G Op : Type 0} (c : Crew G Op) (l : Layout) (p : Place) (free : List �
       sums : (a x y b s t u v w z : ℕ) → s ≡ a + t → t ≡ y + u → u ≡ x + b → v ≡ a + w → w ≡ x + z → z ≡ y + b → s ≡ v
       sums a x y b s t u v w z e d f g i j = omega (arith, e, d, f, g, i, j)
 
-  any_left : (P : Worker Op → Type 0) (xs ys : List (Worker Op)) → IsAny P xs → IsAny P (xs ++ ys)
+  any_left : {X : Type 0} (P : X → Type 0) (xs ys : List X) → IsAny P xs → IsAny P (xs ++ ys)
   any_left P [] ys h = absurd h
   any_left P (x ∷ xs) ys h = ⊎_elim (λ k. inl k) (λ k. inr (any_left P xs ys k)) h
 
-  any_right : (P : Worker Op → Type 0) (xs ys : List (Worker Op)) → IsAny P ys → IsAny P (xs ++ ys)
+  any_right : {X : Type 0} (P : X → Type 0) (xs ys : List X) → IsAny P ys → IsAny P (xs ++ ys)
   any_right P [] ys h = h
   any_right P (x ∷ xs) ys h = inr (any_right P xs ys h)
 
-  any_two : (P : Worker Op → Type 0) (xs ys : List (Worker Op)) → IsAny P (xs ++ ys) → IsAny P xs ⊎ IsAny P ys
+  any_two : {X : Type 0} (P : X → Type 0) (xs ys : List X) → IsAny P (xs ++ ys) → IsAny P xs ⊎ IsAny P ys
   any_two P [] ys h = inr h
   any_two P (x ∷ xs) ys (inl h) = inl (inl h)
   any_two P (x ∷ xs) ys (inr h) = ⊎_elim (λ k. inl (inr k)) (λ k. inr k) (any_two P xs ys h)
 
-  any_swap : (P : Worker Op → Type 0) (a x y b : List (Worker Op)) → IsAny P (a ++ (x ++ (y ++ b))) → IsAny P (a ++ (y ++ (x ++ b)))
+  any_swap : {X : Type 0} (P : X → Type 0) (a x y b : List X) → IsAny P (a ++ (x ++ (y ++ b))) → IsAny P (a ++ (y ++ (x ++ b)))
   any_swap P a x y b h = ⊎_elim (λ k. any_left P a (y ++ (x ++ b)) k) (λ k. any_right P a (y ++ (x ++ b))
       (⊎_elim (λ k. any_right P y (x ++ b) (any_left P x b k)) (λ k. ⊎_elim (λ k. any_left P y (x ++ b) k) (λ k. any_right P y (x ++ b) (any_right P x b k))
       (any_two P y b k)) (any_two P x (y ++ b) k))) (any_two P a (x ++ (y ++ b)) h)
@@ -192,6 +197,9 @@ module _ {G Op : Type 0} (c : Crew G Op) (l : Layout) (p : Place) (free : List �
     sound = sound_swap p (λ word. false) M.state one.left two.left three.left three.right
         (subst (λ gs. Rattle.flit_runs.specs.Soundness.IsSound p (λ word. false) (record { state = M.state; workers = gs }))
         (one.is ∙ ap (λ gs. one.left ++ gs) (two.is ∙ ap (λ gs. two.left ++ gs) three.is)) holds.sound);
+    tagged = λ counted word tag. any_swap (λ g. Tags word (bare_of (word_at M.state word)) g.at) one.left two.left three.left three.right
+        (subst (IsAny (λ g. Tags word (bare_of (word_at M.state word)) g.at))
+        (one.is ∙ ap (λ gs. one.left ++ gs) (two.is ∙ ap (λ gs. two.left ++ gs) three.is)) (holds.tagged counted word tag));
     kept = holds.kept;
     acts = join_acts c l p free h a (y ++ (x ++ b)) one.left (three.left ++ (two.left ++ three.right)) one.acts_left
         (join_acts c l p free h y (x ++ b) three.left (two.left ++ three.right) three.acts_left

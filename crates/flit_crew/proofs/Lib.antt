@@ -5,8 +5,11 @@ pub mod Accounting
 pub mod Recording
 pub mod Dealing
 pub mod Placing
-pub mod Changes
 pub mod Owning
+pub mod Tagging
+pub mod Alone
+pub mod Filling
+pub mod Knowing
 pub mod Acting
 pub mod Moving
 pub mod WritingBack
@@ -15,7 +18,9 @@ pub mod Publishing
 pub mod Going
 pub mod GoingTo
 pub mod Standing
+pub mod Aiming
 pub mod Stepping
+pub mod FactsGoing
 pub mod Reading
 pub mod Fencing
 pub mod Trying
@@ -35,3 +40,8 @@ pub mod CallSteps
 pub mod Happening
 pub mod Asking
 pub mod Telling
+pub mod Limiting
+pub mod Replying
+pub mod Opening
+pub mod Queueing
+pub mod Lawfulness

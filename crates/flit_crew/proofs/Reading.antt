@@ -30,7 +30,7 @@ use Rattle.flit_crew.specs.Machines.{Machine, Works, Takes, MakesAt, deed_of, ha
 use Rattle.flit_crew.specs.Heaps.{Heap, heap_of, waits_at, IsOpen, IsShut, IsMine, AreOld}
 use Rattle.flit_crew.specs.Anatomies.{deed, gone_on, op_taken}
 use Rattle.flit_crew.specs.Accounts.{HasUpdate, Rows, IsSteady}
-use Rattle.flit_crew.specs.Crews.{Crew, Who, Holds, IsFurther}
+use Rattle.flit_crew.specs.Crews.{Crew, Who, Holds, IsFurther, Facts}
 use Rattle.flit_crew.specs.Obligations.{Keeps, IsAfter}
 use Rattle.flit_crew.proofs.Acting.{Split, shut_of}
 use Rattle.flit_crew.proofs.Moving.{is_old}
@@ -38,7 +38,8 @@ use Rattle.flit_crew.proofs.Accounting.{rows_steady, history_steady}
 use Rattle.flit_crew.proofs.Standing.{deed_same, steady_with}
 use Rattle.flit_crew.proofs.Arriving.{away}
 use Rattle.flit_crew.proofs.WritingBack.{word_bare}
-use Rattle.flit_crew.proofs.Going.{r, heap, me_now, Gone, went, turned, knows_now, update_now, since, all_shut}
+use Rattle.flit_crew.proofs.Going.{r, heap, me_now, Gone, turned, tags_now, alone_now, knows_now, update_now, since, all_shut}
+use Rattle.flit_crew.proofs.GoingTo.{went}
 use Rattle.flit_crew.proofs.Stepping.{IsOn, load_first, load_behind}
 
 pub needs_more : (more needs : List Dependency) (w v : ℕ) → Needs needs w v → Needs (more ++ needs) w v
@@ -107,9 +108,11 @@ module _ {G Op : Type 0} (c : Crew G Op) (l : Layout) (p : Place) (free : List �
         IsOn (hand_of w) (hand_of (run.takes p w (answer M.state e))) → AllByRecursion (IsOpen l free here) (goes_for (run.takes p w (answer M.state e))) →
         AllByRecursion (IsOpen l free here) (reads_for (run.takes p w (answer M.state e))) →
         (after M.state e).counter ≡ M.state.counter → Deeds (Works (run.takes p w (answer M.state e))) →
+        Facts c l p free here (me_as (gone e news)) (c.anatomy.with_machine op (Works (run.takes p w (answer M.state e))))
+        (Works (run.takes p w (answer M.state e))) →
         c.knows here (me_as (gone e news)) (c.anatomy.with_machine op (Works (run.takes p w (answer M.state e)))) →
         Next (after M.state e) (op_taken c.anatomy p free op (answer M.state e))
-    quietly e news asked sees words slots same hand goes reading counter deeds knows =
+    quietly e news asked sees words slots same hand goes reading counter deeds facts knows =
         subst (λ m. Next (after M.state e) (gone_on c.anatomy p op (machine_takes p free m (answer M.state e)))) (sym is)
         (went c l p free keeps M a name number op call begun b holds k settled (after M.state e) (gone e news) (Works (run.takes p w (answer M.state e)))
         (record {
@@ -125,7 +128,10 @@ module _ {G Op : Type 0} (c : Crew G Op) (l : Layout) (p : Place) (free : List �
           reached = subst (λ x. AllByRecursion (IsOpen l free here) (goes_for x)) (sym after_at) goes;
           reading = subst (λ x. AllByRecursion (IsOpen l free here) (reads_for x)) (sym after_at) reading;
           mine = subst (λ rows. AllByRecursion (IsMine l free here rows) mine.actor.private) (sym steady.own) mine.mine.mine;
-          right = tt;
+          facts = facts;
+          tags = tags_now c l p free keeps M a name number op call begun b holds k settled e (ap (run.asks p) at_it ∙ asked);
+          alone = alone_now c l p free keeps M a name number op call begun b holds k settled e news (ap (run.asks p) at_it ∙ asked)
+              (subst (λ x. AllByRecursion (Sees (λ y. false) M.state (mine.before ++ mine.actor ∷ mine.behind) x) news) (sym at_it) sees);
           update = deeds.update;
           rows = subst (λ n. Rows c.anatomy l free n here (a ++ next ∷ b)) (sym counter)
               (rows_steady c.anatomy l free M.state.counter here a (busy name number op call begun) next b steady holds.rows);
@@ -186,7 +192,7 @@ module _ {G Op : Type 0} (c : Crew G Op) (l : Layout) (p : Place) (free : List �
       (subst (λ x. IsOn m.hand (hand_of x)) (sym taken) (record { name = refl; number = refl; spare = refl; ticket = refl }))
       (subst (λ x. AllByRecursion (IsOpen l free here) (goes_for x)) (sym taken) tt)
       (subst (λ x. AllByRecursion (IsOpen l free here) (reads_for x)) (sym taken) tt)
-      refl (same_deeds (Works (run.takes p (VLoads m) raw)) (raw, ap (λ x. machine_takes p free x raw) (sym is)) (sym (ap deed_of is)))
+      refl (same_deeds (Works (run.takes p (VLoads m) raw)) (raw, ap (λ x. machine_takes p free x raw) (sym is)) (sym (ap deed_of is))) tt
       (subst (λ x. c.knows here (me_as (gone e (news ∷ []))) (c.anatomy.with_machine op (Works x))) (sym taken)
       (keeps.reads here (me_as mine.actor) (me_as (gone e (news ∷ []))) op (Works (VLoads (record m { at = V_has raw }))) word raw (
         raw,
@@ -214,7 +220,7 @@ module _ {G Op : Type 0} (c : Crew G Op) (l : Layout) (p : Place) (free : List �
       (subst (λ x. IsOn m.hand (hand_of x)) (sym taken) t.further.hand)
       (subst (λ x. AllByRecursion (IsOpen l free here) (goes_for x)) (sym taken) (subst (AllByRecursion (IsOpen l free here)) (sym t.further.goes) tt))
       (subst (λ x. AllByRecursion (IsOpen l free here) (reads_for x)) (sym taken) tt)
-      refl (same_deeds (Works (run.takes p (Loads m) raw)) (raw, ap (λ x. machine_takes p free x raw) (sym is)) (sym (ap deed_of is)))
+      refl (same_deeds (Works (run.takes p (Loads m) raw)) (raw, ap (λ x. machine_takes p free x raw) (sym is)) (sym (ap deed_of is))) tt
       (subst (λ x. c.knows here (me_as (gone e [])) (c.anatomy.with_machine op (Works x))) (sym taken)
       (keeps.reads here (me_as mine.actor) (me_as (gone e [])) op (Works (Loads (load_takes p Load_reads m raw))) word raw (
         raw,
@@ -239,7 +245,7 @@ module _ {G Op : Type 0} (c : Crew G Op) (l : Layout) (p : Place) (free : List �
       (subst (λ x. IsOn m.hand (hand_of x)) (sym taken) t.further.hand)
       (subst (λ x. AllByRecursion (IsOpen l free here) (goes_for x)) (sym taken) (subst (AllByRecursion (IsOpen l free here)) (sym t.further.goes) tt))
       (subst (λ x. AllByRecursion (IsOpen l free here) (reads_for x)) (sym taken) tt)
-      refl (same_deeds (Works (run.takes p (Loads m) told)) (told, ap (λ x. machine_takes p free x told) (sym is)) (sym (ap deed_of is)))
+      refl (same_deeds (Works (run.takes p (Loads m) told)) (told, ap (λ x. machine_takes p free x told) (sym is)) (sym (ap deed_of is))) tt
       (subst (λ x. c.knows here (me_as (gone e [])) (c.anatomy.with_machine op (Works x))) (sym taken)
       (keeps.steady here (me_as mine.actor) (me_as (gone e [])) op (Works (Loads (load_takes p (Asks raw slot) m told))) (
         told,

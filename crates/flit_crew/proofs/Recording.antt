@@ -94,7 +94,7 @@ module _ {Op : Type 0} (A : Anatomy Op) where
   one_maker x w d e (u ∷ us) different same (inr h) (inr k) = one_maker x w d e us different.1 same h k
 
   -- and of the workers only that of a name makes its updates
-  maker_is : (x : ℕ) (d : Entry) (a : List (Worker Op)) (u : Worker Op) (b : List (Worker Op)) → HaveDifferentNames (a ++ u ∷ b) → d.worker ≡ u.name →
+  pub maker_is : (x : ℕ) (d : Entry) (a : List (Worker Op)) (u : Worker Op) (b : List (Worker Op)) → HaveDifferentNames (a ++ u ∷ b) → d.worker ≡ u.name →
       IsAny (IsMaker A x d) (a ++ u ∷ b) → IsMaker A x d u
   maker_is x d a u b different same k = by_place a k (others_new a b u different).0
     where
@@ -107,7 +107,7 @@ module _ {Op : Type 0} (A : Anatomy Op) where
   -- ---- an update is settled
 
   module _ {G : Type 0} (l : Layout) (free : List ℕ) where
-    others_wait : (h : Heap G) (w : ℕ) (e : Entry) (us : List (Worker Op)) → HaveDifferentNames us → History A l free h us → waits_at h w ≡ Some e →
+    pub others_wait : (h : Heap G) (w : ℕ) (e : Entry) (us : List (Worker Op)) → HaveDifferentNames us → History A l free h us → waits_at h w ≡ Some e →
         AllByRecursion (IsOther e.worker) (fin.values (fin.remove h.progress.waiting w))
     others_wait h w e us different r is = all_weaker (λ d. (x : ℕ) × (fin.get (fin.remove h.progress.waiting w) x ≡ Some d)) (IsOther e.worker)
         (λ d k same. by_word k.0 d (eqb k.0 w) refl k.1 same) (fin.values (fin.remove h.progress.waiting w)) (all_found (fin.remove h.progress.waiting w))

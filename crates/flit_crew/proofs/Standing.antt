@@ -1,5 +1,5 @@
 -- What an operation's own rows are, and how far its update is, with its machine further on.
-use Rattle.std.proofs.Common.{◌≡◌, ℕ, ◌&&◌, Bool, true, false, List, Option, Some, refl, ◌∙◌, ap}
+use Rattle.std.proofs.Common.{◌≡◌, ℕ, ◌&&◌, Bool, true, false, List, Option, Some, refl, sym, ◌∙◌, ap, subst}
 use Rattle.flit_words.specs.declared.layouts.Layout.{Layout}
 use Rattle.flit_model.specs.declared.calls.Call.{Call}
 use Rattle.flit_model.specs.declared.calls.Entry.{Entry}
@@ -11,11 +11,11 @@ use Rattle.flit_pv.specs.declared.exchanges.Exchanging.TheVariants.{Ready, Tries
 use Rattle.flit_pv.specs.declared.exchanges.Exchanged.{Exchanged}
 use Rattle.flit_pv.specs.declared.exchanges.Exchanged.TheVariants.{Won as Exchange_won, Lost, Worn}
 use Rattle.flit_structure.specs.Moments.{busy, update_of}
-use Rattle.flit_structure.specs.Lawful.{is_insert, rows_needed}
+use Rattle.flit_structure.specs.Lawful.{is_insert}
 use Rattle.flit_crew.specs.Machines.{Machine, Fresh, MakesAt, hand_in, deed_of, has_linked, exchange_deed, exchange_part, ended_part, ended_deed, ToWin, HasLost}
 use Rattle.flit_crew.specs.Heaps.{Heap, waits_at}
 use Rattle.flit_crew.specs.Anatomies.{Anatomy, own, rows_but, deed, deed_by}
-use Rattle.flit_crew.specs.Accounts.{IsSteady}
+use Rattle.flit_crew.specs.Accounts.{IsSteady, AreTight}
 use Rattle.flit_crew.specs.Crews.{Crew}
 use Rattle.flit_crew.specs.Obligations.{Keeps, IsAfter}
 
@@ -94,7 +94,6 @@ module _ {G Op : Type 0} (c : Crew G Op) (l : Layout) (p : Place) (free : List �
   steady_with h name number call begun now linked spare ticket makes = record {
     own = own_with linked spare;
     ticket = ap (λ x. (hand_in x).ticket) (keeps.put op m after_it) ∙ ticket;
-    tight = λ t. ap (λ x. rows_in (Rattle.std.specs.Prelude.drop (rows_needed l.kind) (hand_in x).spare)) (keeps.put op m after_it)
-        ∙ ap (λ xs. rows_in (Rattle.std.specs.Prelude.drop (rows_needed l.kind) xs)) spare ∙ t;
+    tight = λ t. subst (AreTight l) (sym (ap (λ x. (hand_in x).spare) (keeps.put op m after_it) ∙ spare)) t;
     makes = λ word e is q. (makes word e is q.1 q.0, q.1);
   }

@@ -1,10 +1,11 @@
 -- The other events of a call's PrivateStore: it loads its words, and writes back what is queued.
-use Rattle.std.proofs.Common.{◌≡◌, inl, ℕ, ◌<◌, Bool, true, false, List, [], ◌∷◌, ◌++◌, length, Option, Some, None, refl, sym, ◌∙◌, ap, subst, if◌then◌else◌}
+use Rattle.std.specs.List.{Contains}
+use Rattle.std.proofs.Common.{◌≡◌, inl, ℕ, ◌^◌, ◌<◌, ◌≤◌, Bool, true, false, List, [], ◌∷◌, ◌++◌, length, Option, Some, None, refl, sym, ◌∙◌, ap, subst, if◌then◌else◌}
 use Rattle.std.proofs.lemmas.Option.{same_Some}
 use Rattle.std.specs.List.{AllByRecursion}
 use Rattle.flit_words.specs.declared.layouts.Layout.{Layout}
 use Rattle.flit_words.specs.Words.{version_of}
-use Rattle.flit_model.specs.States.{word_at}
+use Rattle.flit_model.specs.States.{word_at, shadow_at, IsPersistent}
 use Rattle.flit_model.specs.Effects.{after, answer}
 use Rattle.flit_model.specs.Settling.{progress_after}
 use Rattle.flit_model.specs.declared.events.Event.{Event}
@@ -22,16 +23,24 @@ use Rattle.flit_pv.specs.Drafts.{draft_read, is_worn}
 use Rattle.flit_pv.specs.Stores.{HeldStore, store_asks, store_takes, store_room, store_decides, store_goes_on, worn_at}
 use Rattle.flit_runs.specs.Workings as run
 use Rattle.flit_runs.specs.Workings.{Stores}
-use Rattle.flit_runs.specs.Soundness.{MayWriteBack, store_owed}
+use Rattle.flit_runs.specs.Worlds as world
+use Rattle.flit_runs.proofs.ExchangeSteps.{around}
+use Rattle.flit_runs.proofs.Turns.{safe}
+use Rattle.flit_runs.specs.Soundness.{Knows, StoreKnows, MayBeDrafted, MayWriteBack, store_owed}
 use Rattle.flit_structure.specs.declared.workers.Worker.{Worker}
 use Rattle.flit_structure.specs.Moments.{Moment, with_workers, busy}
 use Rattle.flit_structure.specs.Meanings.{first_at}
 use Rattle.flit_crew.specs.Machines.{Works, deed_of, machine_takes, part_of}
 use Rattle.flit_crew.specs.Anatomies.{op_taken}
-use Rattle.flit_crew.specs.Crews.{Crew, Holds}
+use Rattle.flit_crew.specs.Heaps.{Heap}
+use Rattle.flit_crew.specs.Fillings.{Filling, FillsAt, AreLoading, AreStoring}
+use Rattle.flit_crew.specs.Crews.{Crew, Holds, Facts, Fills}
 use Rattle.flit_crew.specs.Obligations.{Keeps}
-use Rattle.flit_crew.proofs.Going.{me_now, knows_now, r}
-use Rattle.flit_crew.proofs.Reading.{quietly, further, gone, same_deeds}
+use Rattle.flit_crew.proofs.Acting.{Split}
+use Rattle.flit_crew.proofs.Filling.{fills_read, fills_room, store_limit}
+use Rattle.flit_crew.proofs.FactsGoing.{fills_go}
+use Rattle.flit_crew.proofs.Going.{me_now, heap, sound_now, facts_now, knows_now, r}
+use Rattle.flit_crew.proofs.Reading.{quietly, at_it, further, gone, same_deeds}
 use Rattle.flit_crew.proofs.Fencing.{Fences, fences, pairs_now}
 use Rattle.flit_crew.proofs.Stepping.{IsOn, fenced_on}
 use Rattle.flit_crew.proofs.Storing.{store_step, next_on}
@@ -72,6 +81,37 @@ module _ {G Op : Type 0} (c : Crew G Op) (l : Layout) (p : Place) (free : List �
         a ++ busy name number (op_taken c.anatomy p free op (answer M.state e)) call (Some (first_at K begun)) ∷ b;
   })
 
+  abbrev mine : Split c l p free (heap c l p free keeps M a name number op call begun b holds K (same_le K)) a (busy name number op call begun) b holds.actors
+  mine = r c l p free keeps M a name number op call begun b holds K (same_le K)
+
+  abbrev here : Heap G
+  here = heap c l p free keeps M a name number op call begun b holds K (same_le K)
+
+  -- what is filled so far
+  filled : Fills c l p free here op m
+  filled = subst (Facts c l p free here (me_now c l p free keeps M a name number op call begun b holds K (same_le K) mine.actor) op) is
+      (facts_now c l p free keeps M a name number op call begun b holds K (same_le K))
+
+  loading : (how : Stored) → m.at ≡ Store_reads how → AreLoading l here (c.anatomy.storing op) how m
+  loading how at = subst (λ x. FillsAt l here (c.anatomy.storing op) x m) at filled.filled
+
+  drafted : (how : Stored) → m.at ≡ Store_reads how → MayBeDrafted M.state mine.actor.private m.drafts
+  drafted how at = (subst (λ x. StoreKnows M.state mine.actor.private x m) at
+      (subst (Knows p (λ x. false) M.state (around (world.writings mine.before) (run.writing_at mine.actor.at) (world.writings mine.behind)) mine.actor.private)
+      (at_it c l p free keeps M a name number op call begun b holds K (same_le K) (Stores m) is)
+      (safe p (λ x. false) M.state mine.before mine.actor mine.behind
+      (sound_now c l p free keeps M a name number op call begun b holds K (same_le K))).knows)).0
+
+  values_small : (v : ℕ) (vs : List ℕ) → m.drafts.values ≡ v ∷ vs → AllByRecursion (λ x. x < 2 ^ 32) m.drafts.values → v < 2 ^ 32
+  values_small v vs e all = (subst (AllByRecursion (λ x. x < 2 ^ 32)) e all).0
+
+  -- a word that is to be loaded is persistent
+  persistent_now : (v : ℕ) (vs : List ℕ) → m.drafts.values ≡ v ∷ vs →
+      AllByRecursion (λ w. Contains mine.actor.private w × IsPersistent M.state w (version_of (word_at M.state w)))
+      (run.words_from m.drafts.word m.drafts.values) → version_of (word_at M.state m.drafts.word) ≤ version_of (shadow_at M.state m.drafts.word)
+  persistent_now v vs e all = (subst (λ xs. AllByRecursion (λ w. Contains mine.actor.private w × IsPersistent M.state w (version_of (word_at M.state w)))
+      (run.words_from m.drafts.word xs)) e all).0.1
+
   -- it loads a word of its own
   store_loads : (how : Stored) → m.at ≡ Store_reads how → Stepped (Load m.drafts.word)
   store_loads how at =
@@ -82,6 +122,12 @@ module _ {G Op : Type 0} (c : Crew G Op) (l : Layout) (p : Place) (free : List �
       (subst (λ x. IsOn m.hand (store_takes x m told).hand) (sym at) (reads_on m how told)) tt tt
       refl (same_deeds c l p free keeps M a name number op call begun b holds K (same_le K) (Works (run.takes p (Stores m) told))
       (told, ap (λ x. machine_takes p free x told) (sym is)) (sym (ap deed_of is)))
+      (fills_go c l p free keeps op m (store_takes m.at m told) (told, ap (λ x. machine_takes p free x told) (sym is)) is
+      (subst (λ x. IsOn m.hand (store_takes x m told).hand) (sym at) (reads_on m how told)).spare (store_limit m.at m told) here here
+      (subst (λ x. FillsAt l here (c.anatomy.storing op) (store_takes x m told).at (store_takes x m told)) (sym at)
+      (fills_read l here (c.anatomy.storing op) m how told (loading how at)
+      (values_small (loading how at).value (loading how at).rest (loading how at).to_load (drafted how at).values)
+      (persistent_now (loading how at).value (loading how at).rest (loading how at).to_load (drafted how at).words) filled.limit)) filled)
       (keeps.steady _ (me_now c l p free keeps M a name number op call begun b holds K (same_le K)
       (r c l p free keeps M a name number op call begun b holds K (same_le K)).actor)
       (me_now c l p free keeps M a name number op call begun b holds K (same_le K)
@@ -93,8 +139,9 @@ module _ {G Op : Type 0} (c : Crew G Op) (l : Layout) (p : Place) (free : List �
   -- it makes room in its queue
   store_fences : (n : Noted) → MayWriteBack (λ x. false) M.state n → store_asks m.at m ≡ Some (persist_of n) →
       ((told : ℕ) → store_takes m.at m told ≡ store_takes m.at m 0) → IsOn m.hand (store_takes m.at m 0).hand →
+      ((h : Heap G) (f : Filling) → FillsAt l h f m.at m → FillsAt l h f (store_takes m.at m 0).at (store_takes m.at m 0)) →
       Fences c l p free keeps M a name number op call begun b holds (Stores m) n.word n.kept
-  store_fences n pair asks deaf hand = record {
+  store_fences n pair asks deaf hand fills = record {
     asks = asks;
     had = pair.had;
     below = subst (λ x. n.word < x) holds.words pair.plain.0;
@@ -103,6 +150,8 @@ module _ {G Op : Type 0} (c : Crew G Op) (l : Layout) (p : Place) (free : List �
     goes = λ h o. tt;
     reading = refl;
     deeds = inl refl;
+    facts = λ h me you on x. fills_go c l p free keeps op m (store_takes m.at m 0) (0, ap (λ y. machine_takes p free y 0) (sym is)) is hand.spare
+        (store_limit m.at m 0) h h (fills h (c.anatomy.storing op) x.filled) x;
     knows = λ h me you kept on le known. keeps.steady h me you op (Works (run.takes p (Stores m) 0)) (0, ap (λ x. machine_takes p free x 0) (sym is)) kept on
         (sym (ap part_of is)) known;
   }
@@ -125,8 +174,19 @@ module _ {G Op : Type 0} (c : Crew G Op) (l : Layout) (p : Place) (free : List �
       (subst (λ y. IsOn m.hand (store_takes y m 0).hand) (sym at)
       (subst (λ t. IsOn m.hand (if t then store_room (record m { hand = fenced_one m.hand m.hand.queue }) n (fenced_one m.hand m.hand.queue).queue
       else Rattle.flit_pv.specs.Stores.store_next (record m { hand = Rattle.flit_pv.specs.Hands.with_pair m.hand n }) m.drafts.ready).hand) (sym room)
-      (roomed n)))))
+      (roomed n)))
+      (λ h f fills. subst (λ y. FillsAt l h f (store_takes y m 0).at (store_takes y m 0)) (sym at)
+      (subst (λ t. FillsAt l h f (made_room n t).at (made_room n t)) (sym room)
+      (fills_room l h f (record m { hand = fenced_one m.hand m.hand.queue }) n (fenced_one m.hand m.hand.queue).queue
+      (same_storing h f n (subst (λ y. FillsAt l h f y m) at fills)))))))
     where
+      made_room : Noted → Bool → HeldStore
+      made_room n t = if t then store_room (record m { hand = fenced_one m.hand m.hand.queue }) n (fenced_one m.hand m.hand.queue).queue
+          else Rattle.flit_pv.specs.Stores.store_next (record m { hand = Rattle.flit_pv.specs.Hands.with_pair m.hand n }) m.drafts.ready
+
+      same_storing : (h : Heap G) (f : Filling) (n : Noted) → AreStoring h f (n ∷ m.drafts.ready) → AreStoring h f (n ∷ m.drafts.ready)
+      same_storing h f n x = x
+
       roomed : (n : Noted) → IsOn m.hand (store_room (record m { hand = fenced_one m.hand m.hand.queue }) n (fenced_one m.hand m.hand.queue).queue).hand
       roomed n =
           let f = fenced_on m.hand m.hand.queue in
@@ -141,5 +201,7 @@ module _ {G Op : Type 0} (c : Crew G Op) (l : Layout) (p : Place) (free : List �
       (store_fences first (owes (Store_makes_room next first) at).0 (ap (λ y. store_asks y m) at)
       (λ told. ap (λ y. store_takes y m told) at ∙ sym (ap (λ y. store_takes y m 0) at))
       (subst (λ y. IsOn m.hand (store_takes y m 0).hand) (sym at) (let g = room_on (record m { hand = with_persist m.hand }) next m.hand.queue in
-      record { name = g.name; number = g.number; spare = g.spare; ticket = g.ticket }))))
+      record { name = g.name; number = g.number; spare = g.spare; ticket = g.ticket }))
+      (λ h f fills. subst (λ y. FillsAt l h f (store_takes y m 0).at (store_takes y m 0)) (sym at)
+      (fills_room l h f (record m { hand = with_persist m.hand }) next m.hand.queue (subst (λ y. FillsAt l h f y m) at fills)))))
   store_steps (Store_ended how) at e q = absurd (none_some e q)

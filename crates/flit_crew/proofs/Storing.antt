@@ -1,5 +1,5 @@
 -- The Store of a call's PrivateStore.
-use Rattle.std.proofs.Common.{◌≡◌, ◌≢◌, ◌⊎◌, inl, ⊎_elim, ℕ, ◌<◌, Bool, true, false, List, [], ◌∷◌, ◌++◌, length, map, slice_set, Option, Some, refl, sym, ◌∙◌, ap, subst, if◌then◌else◌, arith}
+use Rattle.std.proofs.Common.{◌≡◌, ◌≢◌, ◌⊎◌, inl, ⊎_elim, ℕ, ◌+◌, ◌<◌, ◌≤◌, Bool, true, false, List, [], ◌∷◌, ◌++◌, length, map, slice_set, Option, Some, refl, sym, ◌∙◌, ap, subst, if◌then◌else◌, arith}
 use Rattle.std.proofs.lemmas.List.{length-set, length-map, map-set}
 use Rattle.std.specs.Prelude.{Contains}
 use Rattle.std.specs.List.{AllByRecursion}
@@ -22,7 +22,7 @@ use Rattle.flit_pv.specs.Hands.{with_pair, fenced_one}
 use Rattle.flit_pv.specs.Stores.{store_asks, store_takes, store_next, store_room}
 use Rattle.flit_runs.specs.Workings as run
 use Rattle.flit_runs.specs.Workings.{Stores, gains, goes_for}
-use Rattle.flit_runs.specs.Worlds.{Actor, world_of, IsAmong, gone_on as actor_gone}
+use Rattle.flit_runs.specs.Worlds.{Actor, world_of, gone_on as actor_gone}
 use Rattle.flit_runs.specs.Soundness.{Knows, StoreKnows, IsPWord}
 use Rattle.flit_runs.proofs.Lists.{all_among}
 use Rattle.flit_runs.proofs.ExchangeSteps.{around}
@@ -33,10 +33,11 @@ use Rattle.flit_structure.specs.Moments.{Moment, with_workers, busy}
 use Rattle.flit_structure.proofs.Names.{others_new}
 use Rattle.flit_structure.specs.Meanings.{first_at}
 use Rattle.flit_crew.specs.Machines.{Works, Fresh, MakesAt, deed_of, has_linked, machine_takes, hand_in, hand_of, reads_for}
-use Rattle.flit_crew.specs.Heaps.{Heap, heap_of, at_word, waits_at, stored, IsOpen, IsWordOf, IsShut, IsMine, AreAlike}
+use Rattle.flit_crew.specs.Heaps.{Heap, heap_of, at_word, at_shadow, waits_at, stored, IsOpen, IsWordOf, IsShut, IsMine, AreAlike}
 use Rattle.flit_crew.specs.Anatomies.{own, own_in, deed, deed_by, op_taken, gone_on}
 use Rattle.flit_crew.specs.Accounts.{HasUpdate, Rows, History, IsSteady}
-use Rattle.flit_crew.specs.Crews.{Crew, Holds}
+use Rattle.flit_crew.specs.Fillings.{AreStoring, FillsAt}
+use Rattle.flit_crew.specs.Crews.{Crew, Holds, Facts, Fills}
 use Rattle.flit_crew.specs.Obligations.{Keeps, IsAfter}
 use Rattle.flit_crew.proofs.Acting.{Split, Moves, AllStay}
 use Rattle.flit_crew.proofs.Moving.{old_left, old_right}
@@ -45,7 +46,9 @@ use Rattle.flit_crew.proofs.Accounting.{rows_steady, rows_same, history_steady, 
 use Rattle.flit_crew.proofs.Owning.{IsOwn, own_row, one_row, lower}
 use Rattle.flit_crew.proofs.Others.{IsDrawn, IsUntouched, all_drawn, all_untouched, new_others}
 use Rattle.flit_crew.proofs.Standing.{deed_same, steady_with}
-use Rattle.flit_crew.proofs.Going.{r, heap, me_now, sound_now, knows_now, update_now, turned}
+use Rattle.flit_crew.proofs.Filling.{fills_stored, stored_within, limit_stays}
+use Rattle.flit_crew.proofs.FactsGoing.{fills_go}
+use Rattle.flit_crew.proofs.Going.{r, heap, me_now, sound_now, facts_now, knows_now, update_now, turned, tags_now, alone_now}
 use Rattle.flit_crew.proofs.GoingTo.{went_to}
 use Rattle.flit_crew.proofs.Reading.{at_it, further, gone}
 use Rattle.flit_crew.proofs.Stepping.{IsOn}
@@ -83,7 +86,7 @@ module _ {G Op : Type 0} (c : Crew G Op) (l : Layout) (p : Place) (free : List �
       at_store
       (safe p (λ x. false) M.state mine.before mine.actor mine.behind (sound_now c l p free keeps M a name number op call begun b holds K (same_le K))).knows)
 
-  among : IsAmong mine.actor.private n.word
+  among : Contains mine.actor.private n.word
   among = store_knows.each.0.mine
 
   its : IsMine l free here (own c.anatomy op) n.word
@@ -135,6 +138,7 @@ module _ {G Op : Type 0} (c : Crew G Op) (l : Layout) (p : Place) (free : List �
     shadows = λ w o. refl;
     number = length-set here.words n.word n.kept;
     shadows_number = refl;
+    untagged = λ w lt. (holds.sound.words w).bare;
   }
 
   -- ---- the others
@@ -223,6 +227,29 @@ module _ {G Op : Type 0} (c : Crew G Op) (l : Layout) (p : Place) (free : List �
       by_kind false true x = x
       by_kind false false x = x
 
+  -- ---- what is filled
+
+  filled : Fills c l p free here op m
+  filled = subst (Facts c l p free here (me_now c l p free keeps M a name number op call begun b holds K (same_le K) mine.actor) op) is
+      (facts_now c l p free keeps M a name number op call begun b holds K (same_le K))
+
+  storing_it : AreStoring here (c.anatomy.storing op) (n ∷ m.drafts.ready)
+  storing_it = subst (λ x. FillsAt l here (c.anatomy.storing op) x m) at filled.filled
+
+  filling_word : ((c.anatomy.storing op).first ≤ n.word) × (n.word < (c.anatomy.storing op).first + length (c.anatomy.storing op).values)
+  filling_word = stored_within here (c.anatomy.storing op) n m.drafts.ready storing_it
+
+  new_word : at_word after_store n.word ≡ n.kept
+  new_word = ⊎_elim (λ q. q.1) (λ q. absurd (q.0 refl)) (index-set here.words n.word n.kept n.word below_words)
+
+  fills_now : Fills c l p free after_store (c.anatomy.with_machine op (Works (Stores then_at))) then_at
+  fills_now =
+      fills_go c l p free keeps op m then_at after_it is hand.spare (limit_stays (record m { hand = with_pair m.hand n }) m.drafts.ready) here after_store
+      (fills_stored l here after_store (c.anatomy.storing op) n new_word other_word (record m { hand = with_pair m.hand n }) m.drafts.ready storing_it) filled
+
+  asked_now : run.asks p mine.actor.at ≡ Some e
+  asked_now = ap (run.asks p) at_store ∙ ap (λ x. store_asks x m) at ∙ ap (λ t. if t then first_persist m.hand.queue else Some e) room
+
   pub store_step : Holds c l p free (record M {
     state = after M.state e;
     workers =
@@ -240,6 +267,7 @@ module _ {G Op : Type 0} (c : Crew G Op) (l : Layout) (p : Place) (free : List �
         follows =
             follows_same (Some name) here after_store refl (λ w x q. other_word w (waits_other w x q));
         given = given_same;
+        risen = λ w. same_le (version_of (at_shadow here w));
       } in
       let mine_stored : AllByRecursion (IsMine l free after_store (own c.anatomy (c.anatomy.with_machine op (Works (Stores then_at))))) g.private =
       subst (λ rows. AllByRecursion (IsMine l free after_store rows) g.private) (sym steady.own)
@@ -247,7 +275,7 @@ module _ {G Op : Type 0} (c : Crew G Op) (l : Layout) (p : Place) (free : List �
       (λ w k. record { shut = record { row = k.shut.row; pool = k.shut.pool; word = k.shut.word; unlinked = k.shut.unlinked }; own = k.own })
       mine.actor.private mine.mine.mine) in
       let knows = keeps.stores here me you op (Works (Stores then_at)) n.word n.kept after_it holds.kept
-      (further c l p free keeps M a name number op call begun b holds K (same_le K) e []) among its
+      (further c l p free keeps M a name number op call begun b holds K (same_le K) e []) among its filling_word.0 filling_word.1
       (knows_now c l p free keeps M a name number op call begun b holds K (same_le K)) in
       let rows : Rows c.anatomy l free M.state.counter after_store (a ++ next ∷ b) =
       rows_same c.anatomy l free M.state.counter here after_store (a ++ next ∷ b) refl refl
@@ -281,7 +309,9 @@ module _ {G Op : Type 0} (c : Crew G Op) (l : Layout) (p : Place) (free : List �
             (reads_for x)) (sym after_at) tt;
         mine_now = subst (λ k. AllByRecursion (IsMine l free k (own c.anatomy (c.anatomy.with_machine op (Works (Stores then_at))))) g.private) heap_is
             mine_stored;
-        right = tt;
+        tags = tags_now c l p free keeps M a name number op call begun b holds K (same_le K) e asked_now;
+        alone = alone_now c l p free keeps M a name number op call begun b holds K (same_le K) e [] asked_now tt;
+        facts = subst (λ k. Facts c l p free k you (c.anatomy.with_machine op (Works (Stores then_at))) (Works (Stores then_at))) heap_is fills_now;
         update = subst (HasUpdate (let N : Moment Op = record M { state = after M.state e } in heap_of N holds.given holds.ghost) name number call
             (first_at K begun)) (sym deeds)
             (subst (λ k. HasUpdate k name number call (first_at K begun) (deed c.anatomy op)) heap_is update_stored);

@@ -33,12 +33,13 @@ use Rattle.flit_structure.specs.Meanings.{first_at}
 use Rattle.flit_crew.specs.Machines.{Works, deed_of, working_deed, exchange_deed, machine_takes, hand_of, reads_for, part_of, exchange_part, ToWin, HasLost}
 use Rattle.flit_crew.specs.Heaps.{Heap, heap_of, IsOpen}
 use Rattle.flit_crew.specs.Anatomies.{op_taken}
-use Rattle.flit_crew.specs.Crews.{Crew, Who, Holds, IsFurther}
+use Rattle.flit_crew.specs.Crews.{Crew, Who, Holds, IsFurther, Facts, ExchangesAt}
 use Rattle.flit_crew.specs.Obligations.{Keeps, IsAfter}
 use Rattle.flit_crew.proofs.Acting.{Split}
 use Rattle.flit_crew.proofs.Going.{r, heap, me_now, Gone, knows_now}
 use Rattle.flit_crew.proofs.Reading.{quietly, at_it, further, gone, same_deeds}
 use Rattle.flit_crew.proofs.Standing.{fresh_to_win, fresh_lost}
+use Rattle.flit_crew.proofs.FactsGoing.{never_worn}
 use Rattle.flit_crew.proofs.Fencing.{Fences, pairs_now}
 use Rattle.flit_crew.proofs.Stepping.{IsOn, fenced_on, exchange_on, ExchangeOn}
 
@@ -101,6 +102,7 @@ module _ {G Op : Type 0} (c : Crew G Op) (l : Layout) (p : Place) (free : List �
       tt q.counter (same_deeds c l p free keeps M a name number op call begun b holds K (same_le K) (Works (run.takes p (Exchanges m) (answer M.state e)))
       (answer M.state e, ap (λ y. machine_takes p free y (answer M.state e)) (sym is))
       (ap (λ y. exchange_deed y.at y) q.takes ∙ q.deed ∙ sym (ap deed_of is)))
+      (never_worn c l p free m m.at refl (answer M.state e) e q.asks)
       (subst (λ y. c.knows here (you_by e) (c.anatomy.with_machine op (Works (Exchanges y)))) (sym q.takes)
       (q.knows (answer M.state e, ap (λ y. Works (Exchanges y)) (sym q.takes) ∙ ap (λ y. machine_takes p free y (answer M.state e)) (sym is))
       (me_as (Exchanges m)) (you_by e) (further c l p free keeps M a name number op call begun b holds K (same_le K) e []) refl
@@ -265,6 +267,8 @@ module _ {G Op : Type 0} (c : Crew G Op) (l : Layout) (p : Place) (free : List �
         goes = λ h o. subst (λ y. AllByRecursion (IsOpen l free h) (goes_for y)) (sym (taken 0)) o;
         reading = ap reads_for (taken 0);
         deeds = inl (ap working_deed (taken 0) ∙ ap (λ y. exchange_deed y x) at ∙ sym (ap (λ y. exchange_deed y m) at));
+        facts = λ h me you on z. subst (λ y. Facts c l p free h you (c.anatomy.with_machine op (Works y)) (Works y)) (sym (taken 0))
+            (subst (λ y. ExchangesAt c l p free y) (sym at) tt);
         knows = λ h me you kept on le known. subst (λ y. c.knows h you (c.anatomy.with_machine op (Works y))) (sym (taken 0))
             (keeps.steady h me you op (Works (Exchanges x)) (0, ap Works (sym (taken 0)) ∙ ap (λ y. machine_takes p free y 0) (sym is)) kept on
             (sym (ap part_of is)) known);

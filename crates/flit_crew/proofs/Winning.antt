@@ -1,5 +1,5 @@
 -- An Exchange of a call's PExchange that is won.
-use Rattle.std.proofs.Common.{◌≡◌, ◌≢◌, ◌⊎◌, inl, inr, ⊎_elim, ℕ, suc, ◌+◌, ◌<◌, ◌≤◌, ◌&&◌, Bool, true, false, cond, List, [], ◌∷◌, ◌++◌, length, drop, map, slice_set, Option, Some, None, refl, sym, ◌∙◌, ap, subst, arith, if◌then◌else◌}
+use Rattle.std.proofs.Common.{◌≡◌, ◌≢◌, ◌⊎◌, inl, inr, ⊎_elim, ℕ, suc, ◌+◌, ◌<◌, ◌≤◌, ◌&&◌, Bool, true, false, cond, List, [], ◌∷◌, ◌++◌, length, map, slice_set, Option, Some, None, refl, sym, ◌∙◌, ap, subst, arith, if◌then◌else◌}
 use Rattle.std.proofs.lemmas.Bool.{eq-eqb}
 use Rattle.std.proofs.lemmas.List.{length-set, length-map, map-set}
 use Rattle.std.proofs.lemmas.List.Elements.{Contains-append_right, Contains-append_cases}
@@ -35,17 +35,18 @@ use Rattle.flit_runs.proofs.RuleLaws.{rule, words_rule}
 use Rattle.flit_runs.proofs.Turns.{sound-turn}
 use Rattle.flit_structure.specs.declared.workers.Worker.{Worker}
 use Rattle.flit_structure.specs.Moments.{Moment, with_workers, busy, made, update_of}
-use Rattle.flit_structure.specs.Lawful.{StandsFrom, is_insert, rows_needed}
+use Rattle.flit_structure.specs.Lawful.{StandsFrom, is_insert}
 use Rattle.flit_structure.proofs.Names.{others_new}
 use Rattle.flit_structure.proofs.Growing.{get_put}
 use Rattle.flit_structure.specs.Meanings.{first_at}
 use Rattle.flit_crew.specs.Machines.{Works, Fresh, Making, MakesAt, deed_of, has_linked, machine_takes, working_in, hand_in, hand_of, reads_for, has_ended, exchange_part, ToWin}
 use Rattle.flit_crew.specs.Heaps.{Heap, heap_of, IsOpen, IsWordOf, IsAhead, AreResting, at_word, at_shadow, waits_at, won}
 use Rattle.flit_crew.specs.Anatomies.{own, own_in, hand_at, rows_but, deed, deed_by, gone_on, op_taken}
-use Rattle.flit_crew.specs.Accounts.{HasUpdate, IsUnmade, Rows, History, IsSteady, IsTight, inserts_in}
-use Rattle.flit_crew.specs.Crews.{Crew, Who, Acts, Holds, IsFurther, StandsRight, who_of, effect_if, effect_of, links_of}
+use Rattle.flit_crew.specs.Accounts.{HasUpdate, IsUnmade, Rows, History, IsSteady, IsTight, AreTight, inserts_in}
+use Rattle.flit_crew.specs.Crews.{Crew, Who, Acts, Holds, IsFurther, Facts, who_of, effect_if, effect_of, links_of}
 use Rattle.flit_crew.specs.Obligations.{Keeps, WonSo, IsAfter}
 use Rattle.flit_crew.proofs.Acting.{Split, Moves, AllStay}
+use Rattle.flit_crew.proofs.Tagging.{TagsGo}
 use Rattle.flit_crew.proofs.Moving.{moved, old_left, old_right}
 use Rattle.flit_crew.proofs.Updating.{Follows, follows_won, settled_longer}
 use Rattle.flit_crew.proofs.Accounting.{rows_steady, rows_same, inserts_won, history_steady, history_words}
@@ -55,10 +56,10 @@ use Rattle.flit_crew.proofs.Owning.{IsOwn, own_row, own_away, rests_now, lower}
 use Rattle.flit_crew.proofs.Others.{IsDrawn, IsUntouched, all_drawn, all_untouched, new_others}
 use Rattle.flit_crew.proofs.Standing.{fresh_to_win, deed_with}
 use Rattle.flit_crew.proofs.WritingBack.{word_bare}
-use Rattle.flit_crew.proofs.Going.{r, heap, me_now, sound_now, busy_now, knows_now, update_now, since}
+use Rattle.flit_crew.proofs.Going.{r, heap, me_now, sound_now, busy_now, knows_now, update_now, since, tags_now, alone_now}
 use Rattle.flit_crew.proofs.Reading.{needs_more, at_it}
 
-needed_durable : (s : State) (needs : List Dependency) (w v : ℕ) → IsDurable s needs → Needs needs w v → v ≤ version_of (shadow_at s w)
+pub needed_durable : (s : State) (needs : List Dependency) (w v : ℕ) → IsDurable s needs → Needs needs w v → v ≤ version_of (shadow_at s w)
 needed_durable s [] w v h n = absurd n
 needed_durable s (d ∷ ds) w v h (inl e) = subst (λ x. v ≤ version_of (shadow_at s x)) e.0 (subst (λ x. x ≤ version_of (shadow_at s d.word)) e.1 h.0)
 needed_durable s (d ∷ ds) w v h (inr n) = needed_durable s ds w v h.1 n
@@ -268,6 +269,9 @@ module _ {G Op : Type 0} (c : Crew G Op) (l : Layout) (p : Place) (free : List �
     progress_is o same = ap (λ y. progress_after M.progress M.state e y) same
         ∙ ap (λ t. if t then takes_effect M.progress m.word update else M.progress) (eq-eqb (word_at M.state m.word) old x.found)
 
+    asked_now : run.asks p mine.actor.at ≡ Some e
+    asked_now = ap (run.asks p) at_exchange ∙ x.asks
+
     sound : IsSound p (λ y. false) (world_of (after M.state e) mine.before won_actor mine.behind)
     sound = sound-turn p (λ y. false) (world_of M.state mine.before open_actor mine.behind) (world_of (after M.state e) mine.before won_actor mine.behind)
         (event M.state mine.before open_actor mine.behind e [] (ap (run.asks p) at_exchange ∙ x.asks) tt) (opened changes_word)
@@ -301,7 +305,18 @@ module _ {G Op : Type 0} (c : Crew G Op) (l : Layout) (p : Place) (free : List �
     follows = follows_won name here after_heap m.word update refl none_waits own_update other_word
 
     moves : Moves c l p free (Some name) here after_heap
-    moves = record { was = holds.kept; is = wins.1.kept; later = wins.1.later; follows = follows; given = given_more }
+    moves = record {
+      was = holds.kept;
+      is = wins.1.kept;
+      later = wins.1.later;
+      follows = follows;
+      given = given_more;
+      risen =
+          λ w. same_le (version_of (at_shadow here w));
+    }
+      where
+        same_le : (n : ℕ) → n ≤ n
+        same_le n = omega arith
 
     -- ---- the others
 
@@ -384,7 +399,7 @@ module _ {G Op : Type 0} (c : Crew G Op) (l : Layout) (p : Place) (free : List �
         some_none e q = cc
 
     tight_still : IsTight c.anatomy l (busy name number op call begun) → IsTight c.anatomy l next_worker
-    tight_still t = ap (λ y. rows_in (drop (rows_needed l.kind) y.spare)) hand_now ∙ ap (λ y. rows_in (drop (rows_needed l.kind) y.spare)) (sym hand_was) ∙ t
+    tight_still t = subst (λ y. AreTight l y.spare) (hand_was ∙ sym hand_now) t
 
     plainly : c.anatomy.effects op ≡ false → Accounts
     plainly q =
@@ -506,6 +521,8 @@ module _ {G Op : Type 0} (c : Crew G Op) (l : Layout) (p : Place) (free : List �
           reading = subst (λ y. AllByRecursion (IsOpen l free after_heap) (reads_for y)) (sym taken) tt;
           mine = tt;
           published = λ q t. refl;
+          alone = λ one. let x = alone_now c l p free keeps M a name number op call begun b holds k settled e [] asked_now tt one in
+              record { machine = x.machine; queued = x.queued; seen = x.seen };
           doing = record {
             same_call = keeps.put_call op (Works (Exchanges (exchange_at m WritesBack))) after_it
                 ∙ (busy_now c l p free keeps M a name number op call begun b holds k settled).same_call;
@@ -513,7 +530,7 @@ module _ {G Op : Type 0} (c : Crew G Op) (l : Layout) (p : Place) (free : List �
             first = through (first_at k begun) (length M.progress.settled) (length after_heap.progress.settled)
                 (since c l p free keeps M a name number op call begun b holds k settled) (settled_longer (Some name) here after_heap follows);
             waits = λ y. absurd (some_none (first_at k begun) y);
-            right = subst (StandsRight c l p free) (sym (keeps.put op (Works (Exchanges (exchange_at m WritesBack))) after_it)) tt;
+            facts = subst (Facts c l p free after_heap you next_op) (sym (keeps.put op (Works (Exchanges (exchange_at m WritesBack))) after_it)) tt;
             going = ap (has_ended p) (keeps.put op (Works (Exchanges (exchange_at m WritesBack))) after_it);
             update = accounts.0;
             knows = wins.1.knows;
@@ -531,6 +548,8 @@ module _ {G Op : Type 0} (c : Crew G Op) (l : Layout) (p : Place) (free : List �
         (moved c l p free keeps M a (busy name number op call begun) b holds N.state N.progress (links_of c.anatomy op ++ holds.given) wins.0 w won_actor refl
         (length-set M.state.words m.word (dressed p.counted m.to) ∙ holds.words) holds.slots
         (subst (λ s. IsSound p (λ y. false) (world_of s mine.before won_actor mine.behind)) state_is sound)
+        (subst (λ s. TagsGo p M.state s mine.actor.at won_actor.at) state_is
+        (tags_now c l p free keeps M a name number op call begun b holds k settled e asked_now))
         (subst (λ h. Moves c l p free (Some name) here h) heap_is moves)
         (subst (λ h. AllStay c l p free (Some name) here h a mine.before) heap_is left)
         (subst (λ h. AllStay c l p free (Some name) here h b mine.behind) heap_is right)

@@ -28,7 +28,7 @@ use Rattle.flit_structure.specs.declared.workers.Worker.{Worker}
 use Rattle.flit_structure.specs.Moments.{Moment}
 use Rattle.flit_structure.proofs.WriteBacks.{old_state, old_progress}
 use Rattle.flit_runs.proofs.Reading.{had-now}
-use Rattle.flit_place.proofs.WordTags.{version-bare}
+use Rattle.flit_place.proofs.WordTags.{version-bare, version-max_left}
 use Rattle.flit_model.proofs.Elements.{all_weaker}
 use Rattle.flit_crew.specs.Heaps.{Heap, heap_of, written, IsOpen, IsWordOf, IsShut, IsMine, IsAhead, AreOld, AreAlike}
 use Rattle.flit_crew.specs.Anatomies.{own_in}
@@ -83,6 +83,18 @@ module _ {G Op : Type 0} (c : Crew G Op) (l : Layout) (p : Place) (free : List �
   is_ahead : shadow_at M.state word < kept → IsAhead h word
   is_ahead less = ap version_of (word_bare M.state.words word) ∙ bare_version (word_at M.state word) ∙ next less
 
+  -- no shadow falls
+  risen_shadows : (x : ℕ) → version_of (slice_index M.state.shadows x) ≤ version_of (slice_index t.shadows x)
+  risen_shadows x = ⊎_elim
+      (λ q. subst (λ n. version_of (slice_index M.state.shadows x) ≤ version_of n) (sym q.1)
+      (subst (λ y. version_of (slice_index M.state.shadows y) ≤ version_of (max (shadow_at M.state word) kept)) (sym q.0)
+      (version-max_left (shadow_at M.state word) kept)))
+      (λ q. subst (λ n. version_of (slice_index M.state.shadows x) ≤ version_of n) (sym q.1) (same_le (version_of (slice_index M.state.shadows x))))
+      (index-set M.state.shadows word (max (shadow_at M.state word) kept) x (subst (λ n. word < n) (sym (holds.sound.suits.whole ∙ holds.words)) below))
+    where
+      same_le : (n : ℕ) → n ≤ n
+      same_le n = omega arith
+
   -- all workers stay: no word changes
   all_stay_written : (k : Heap G) → k.words ≡ h.words → k.given ≡ h.given → (us : List (Worker Op)) (gs : List Actor) →
       AllByRecursion (λ g. AreOld h g.needs) gs → AllAct c l p free h us gs → AllStay c l p free None h k us gs
@@ -117,7 +129,8 @@ module _ {G Op : Type 0} (c : Crew G Op) (l : Layout) (p : Place) (free : List �
   after_it ghost is later =
       let k : Heap G = heap_of N holds.given ghost in
       let follows : Follows None h k = follows_settled h k word refl refl in
-      let moves : Moves c l p free None h k = record { was = holds.kept; is = is; later = later; follows = follows; given = λ row q. q } in
+      let moves : Moves c l p free None h k =
+      record { was = holds.kept; is = is; later = later; follows = follows; given = λ row q. q; risen = risen_shadows } in
       record {
         given = holds.given;
         ghost = ghost;
@@ -127,6 +140,7 @@ module _ {G Op : Type 0} (c : Crew G Op) (l : Layout) (p : Place) (free : List �
         words = holds.words;
         slots = holds.slots;
         sound = sound;
+        tagged = holds.tagged;
         kept = is;
         acts = all_last c l p free keeps None h k moves M.workers holds.actors
             (all_stay_written k refl refl M.workers holds.actors (all_old p (λ w. false) M.state (writings holds.actors) h holds.actors holds.sound.words refl
@@ -184,6 +198,7 @@ module _ {G Op : Type 0} (c : Crew G Op) (l : Layout) (p : Place) (free : List �
         shadows = λ x o. ⊎_elim (λ q. absurd (apart x o q.0)) (λ q. q.1) (index-set M.state.shadows word (max (shadow_at M.state word) kept) x below_shadows);
         number = refl;
         shadows_number = length-set M.state.shadows word (max (shadow_at M.state word) kept);
+        untagged = λ w lt. (sound.words w).bare;
       }
 
   -- it is the one or the other

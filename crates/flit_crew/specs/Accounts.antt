@@ -34,6 +34,10 @@ abbrev pub IsAny : {X : Type 0} → (X → Type 0) → List X → Type 0
 IsAny P [] = ⊥
 IsAny P (u ∷ us) = P u ⊎ IsAny P us
 
+-- a hand has as many spare places as an insert needs at least, and beyond these no row
+abbrev pub AreTight : Layout → List ℕ → Type 0
+AreTight l spare = (rows_needed l.kind ≤ length spare) × (rows_in (drop (rows_needed l.kind) spare) ≡ [])
+
 -- ---- the updates
 
 -- the call with this name and number has no update yet
@@ -71,9 +75,8 @@ module _ {Op : Type 0} (A : Anatomy Op) where
 
   -- ---- the rows
 
-  -- beyond the places that an insert needs a hand has no row
   abbrev pub IsTight : Layout → Worker Op → Type 0
-  IsTight l u = rows_in (drop (rows_needed l.kind) (hand_at A u.doing).spare) ≡ []
+  IsTight l u = AreTight l (hand_at A u.doing).spare
 
   pub record Rows {G : Type 0} (l : Layout) (free : List ℕ) (counter : ℕ) (h : Heap G) (us : List (Worker Op)) : Type 0 where
     pub dealt : IsDealt (λ u. own_in A u.doing) free counter h.given us

@@ -9,6 +9,7 @@ use Rattle.flit_runs.specs.Workings.{Working, Idles, Evicts}
 use Rattle.flit_structure.specs.declared.workers.Doing.{Doing}
 use Rattle.flit_structure.specs.declared.workers.Doing.TheVariants.{Idle, Busy, Evicting}
 use Rattle.flit_structure.specs.Lawful.{is_insert}
+use Rattle.flit_crew.specs.Fillings.{Filling}
 use Rattle.flit_crew.specs.Machines.{Machine, machine_takes, working_in, hand_in, hand_of, has_ended, Deed, Fresh, Made, deed_of, has_linked}
 
 pub record Anatomy (Op : Type 0) : Type 0 where
@@ -23,6 +24,8 @@ pub record Anatomy (Op : Type 0) : Type 0 where
   -- its exchange, once won, is what the call does to the map; and it is behind that exchange
   pub effects : Op → Bool
   pub past : Op → Bool
+  -- what its PrivateStore fills, where it is in one
+  pub storing : Op → Filling
 
 module _ {Op : Type 0} (A : Anatomy Op) where
   -- the operation after its event: with its machine further on, or, where that has ended, at its next one

@@ -12,12 +12,13 @@ use Rattle.flit_crew.specs.Machines.{machine_asks, machine_exchanges, working_in
 use Rattle.flit_crew.specs.Anatomies.{op_taken}
 use Rattle.flit_crew.specs.Crews.{Crew, Holds}
 
--- a structure's openings, and its bounds
+-- a structure's openings, its bounds, and what holds of a moment besides, as that counts are far from their top
 pub record Bounds (Op : Type 0) : Type 1 where
   pub opens : Opening → Type 0
   pub to_go : State → Op → ℕ
   pub bound : Option ℕ
   pub licensed : Moment Op → Op → Tally → ℕ → Type 0
+  pub besides : Moment Op → Type 0
 
 abbrev pub crew_meaning : {G Op : Type 0} → Crew G Op → Layout → Place → List ℕ → Bounds Op → Meaning Op
 crew_meaning c l p free bounds = record {
@@ -34,6 +35,6 @@ crew_meaning c l p free bounds = record {
   writing = λ op. writing_at (working_in (c.anatomy.machine op));
   to_go = bounds.to_go;
   bound = bounds.bound;
-  holds = λ M. Holds c l p free M;
+  holds = λ M. Holds c l p free M × bounds.besides M;
   licensed = bounds.licensed;
 }

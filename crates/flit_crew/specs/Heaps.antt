@@ -1,10 +1,10 @@
 -- What a structure's predicates see of a moment. No tag bit, no slot and no row counter is in it, so that events which
 -- touch only these leave it as it is.
-use Rattle.std.specs.Prelude.{◌≡◌, ◌⊎◌, ℕ, ◌+◌, ◌<◌, ◌≤◌, true, length, List, ◌++◌, map, Option, slice_index, slice_set, Contains}
+use Rattle.std.specs.Prelude.{◌≡◌, ◌⊎◌, ℕ, ◌+◌, ◌<◌, ◌≤◌, true, false, length, List, ◌++◌, map, Option, slice_index, slice_set, Contains}
 use Rattle.std.specs.FinMap as fin
 use Rattle.flit_words.specs.declared.layouts.Layout.{Layout}
 use Rattle.flit_words.specs.Layouts.{words_of, row_word_of, value_word_of, parts_of}
-use Rattle.flit_words.specs.Words.{bare_of, version_of}
+use Rattle.flit_words.specs.Words.{bare_of, is_tagged, version_of}
 use Rattle.flit_model.specs.Settling.{Progress, settles, takes_effect}
 use Rattle.flit_model.specs.declared.calls.Entry.{Entry}
 use Rattle.flit_runs.specs.Workings.{Dependency}
@@ -98,7 +98,7 @@ pub record IsMine {G : Type 0} (l : Layout) (free : List ℕ) (h : Heap G) (rows
   pub shut : IsShut l free h w
   pub own : Contains rows shut.row
 
--- two heaps differ in words and shadows that nobody may reach
+-- two heaps differ in words and shadows that nobody may reach; and no shadow is tagged
 pub record AreAlike {G : Type 0} (l : Layout) (free : List ℕ) (h k : Heap G) : Type 0 where
   pub opening : k.opening ≡ h.opening
   pub progress : k.progress ≡ h.progress
@@ -108,6 +108,7 @@ pub record AreAlike {G : Type 0} (l : Layout) (free : List ℕ) (h k : Heap G) :
   pub shadows : (w : ℕ) → IsOpen l free h w → at_shadow k w ≡ at_shadow h w
   pub number : length k.words ≡ length h.words
   pub shadows_number : length k.shadows ≡ length h.shadows
+  pub untagged : (w : ℕ) → w < length k.shadows → is_tagged (at_shadow k w) ≡ false
 
 -- rows of the pool that aren't linked, and each of their words is its shadow
 pub record AreResting {G : Type 0} (l : Layout) (free : List ℕ) (h : Heap G) (rows : List ℕ) : Type 0 where

@@ -1,20 +1,15 @@
--- What stands of the crew's proof with no structure in it: workers whose machines have ended, and the numbers of updates.
-use Rattle.std.specs.Prelude.{◌≡◌, ◌≢◌, ℕ, ◌<◌, Bool, List, [], ◌∷◌, ◌++◌, None}
+-- What stands of the crew's proof with no structure in it: what a machine was started for, and the numbers of updates.
+use Rattle.std.specs.Prelude.{◌≡◌, ◌≢◌, ℕ, ◌<◌, List, [], ◌∷◌, ◌++◌}
 use Rattle.std.specs.List.{AllByRecursion}
 use Rattle.flit_model.specs.Lists.{IsRisingFrom}
-use Rattle.flit_model.specs.States.{State}
 use Rattle.flit_model.specs.declared.calls.Entry.{Entry}
 use Rattle.flit_place.specs.Tags.{Place}
-use Rattle.flit_runs.specs.Workings.{Idles, asks, leaves, confirms}
-use Rattle.flit_runs.specs.Worlds.{Actor, world_of}
-use Rattle.flit_runs.specs.Soundness.{IsSound}
 use Rattle.flit_structure.specs.Moments.{numbers_of}
+use Rattle.flit_crew.specs.Machines.{Machine, machine_takes, aim_of}
 
--- A worker whose machine asks nothing more may be at rest, with the hand that the machine leaves: a sound world stays
--- sound. It depends then on what the machine has confirmed.
-abbrev pub EndedMachinesLeave : Type 0
-EndedMachinesLeave = (p : Place) (vs : ℕ → Bool) (s : State) (xs : List Actor) (me : Actor) (ys : List Actor) → asks p me.at ≡ None →
-    IsSound p vs (world_of s xs me ys) → IsSound p vs (world_of s xs (record me { at = Idles (leaves me.at); needs = confirms me.at ++ me.needs }) ys)
+-- No event changes what a machine was started for: the word that it loads or confirms, and what it exchanges.
+abbrev pub AimsStay : Type 0
+AimsStay = (p : Place) (free : List ℕ) (m : Machine) (told : ℕ) → aim_of (machine_takes p free m told) ≡ aim_of m
 
 -- Each name's numbers go on rising, settled and then waiting in any order of words: where an update comes to wait whose
 -- name has none that waits and whose number is above those settled; and settling the one that waits changes no numbers.

@@ -1,9 +1,11 @@
 pub mod Laws
 pub mod Machines
 pub mod Heaps
+pub mod Fillings
 pub mod Anatomies
 pub mod Rows
 pub mod Accounts
 pub mod Crews
 pub mod CrewMeanings
 pub mod Obligations
+pub mod Remaining

@@ -1,6 +1,7 @@
 -- The machine that an operation is in: one of the P-V Interface, or a TakeRow. What it asks, what an answer makes of it,
 -- the hand in it, and how far it is, as a structure looks at it.
-use Rattle.std.specs.Prelude.{◌≡◌, ℕ, ◌&&◌, Bool, true, false, not, List, [], ◌∷◌, Option, is_none}
+use Rattle.std.specs.Prelude.{◌≡◌, ◌≢◌, ℕ, ◌&&◌, Bool, true, false, not, List, [], ◌∷◌, Option, None, is_none}
+use Rattle.flit_words.specs.Words.{is_tagged}
 use Rattle.flit_model.specs.declared.events.Event.{Event}
 use Rattle.flit_place.specs.Tags.{Place}
 use Rattle.flit_pv.specs.declared.hands.Hand.{Hand}
@@ -8,6 +9,9 @@ use Rattle.flit_pv.specs.declared.loads.Loading.{Loading}
 use Rattle.flit_pv.specs.declared.loads.Loading.TheVariants.{Reads as Load_reads, Asks, MakesRoom as Load_makes_room, Has}
 use Rattle.flit_pv.specs.declared.v_loads.VLoading.{VLoading}
 use Rattle.flit_pv.specs.declared.v_loads.VLoading.TheVariants.{Reads as V_reads, Has as V_has}
+use Rattle.flit_pv.specs.Confirms.{HeldConfirm}
+use Rattle.flit_pv.specs.declared.confirms.Confirming.{Confirming}
+use Rattle.flit_pv.specs.declared.confirms.Confirming.TheVariants.{Begins, MakesRoom as Confirm_makes_room, Done}
 use Rattle.flit_pv.specs.Exchanges.{HeldExchange}
 use Rattle.flit_pv.specs.declared.exchanges.Exchanging.{Exchanging}
 use Rattle.flit_pv.specs.declared.exchanges.Exchanging.TheVariants.{Ready, Tries, TriesBare, WritesBack, Withdraws, Lowers, Ended}
@@ -138,6 +142,30 @@ abbrev pub part_of : Machine → Part
 part_of (Works w) = working_part w
 part_of (Takes m) = Other
 
+-- ---- what it was started for, which no event changes
+
+pub data Aim : Type 0 where
+  AimsToLoad : (word : ℕ) → Aim
+  AimsToConfirm : (word raw : ℕ) → Aim
+  AimsToExchange : (word from to : ℕ) → Aim
+  Aimless : Aim
+
+abbrev pub working_aim : Working → Aim
+working_aim (Idles hand) = Aimless
+working_aim (Loads m) = AimsToLoad m.word
+working_aim (VLoads m) = AimsToLoad m.word
+working_aim (Confirms m) = AimsToConfirm m.word m.raw
+working_aim (Exchanges m) = AimsToExchange m.word m.from m.to
+working_aim (VExchanges m) = AimsToExchange m.word m.from m.to
+working_aim (Stores m) = Aimless
+working_aim (Fences m) = Aimless
+working_aim (Completes m) = Aimless
+working_aim (Evicts m) = AimsToLoad m.word
+
+abbrev pub aim_of : Machine → Aim
+aim_of (Works w) = working_aim w
+aim_of (Takes m) = Aimless
+
 -- ---- by the event asked its word is exchanged
 
 abbrev pub exchanges_now : Place → Exchanging → HeldExchange → Bool
@@ -214,3 +242,51 @@ abbrev pub MakesAt : Deed → ℕ → Type 0
 MakesAt Fresh word = ⊥
 MakesAt (Making x to) word = x ≡ word
 MakesAt Made word = ⊥
+
+-- ---- tags
+
+-- an exchange under way has written this bare word, and not yet cleared its tag
+abbrev pub ExchangeTags : ℕ → ℕ → Exchanging → HeldExchange → Type 0
+ExchangeTags word bare Ready m = ⊥
+ExchangeTags word bare (Tries slot) m = ⊥
+ExchangeTags word bare TriesBare m = ⊥
+ExchangeTags word bare WritesBack m = (m.word ≡ word) × (m.to ≡ bare)
+ExchangeTags word bare Withdraws m = (m.word ≡ word) × (m.to ≡ bare)
+ExchangeTags word bare (Lowers slot found) m = ⊥
+ExchangeTags word bare (Ended how) m = ⊥
+
+abbrev pub Tags : ℕ → ℕ → Working → Type 0
+Tags word bare (Idles hand) = ⊥
+Tags word bare (Loads m) = ⊥
+Tags word bare (VLoads m) = ⊥
+Tags word bare (Confirms m) = ⊥
+Tags word bare (Exchanges m) = ExchangeTags word bare m.at m
+Tags word bare (VExchanges m) = ⊥
+Tags word bare (Stores m) = ⊥
+Tags word bare (Fences m) = ⊥
+Tags word bare (Completes m) = ⊥
+Tags word bare (Evicts m) = ⊥
+
+-- no tag has shown to it, nor will one of the word that it confirms: so it queues no word
+abbrev pub IsUnroomed : Loading → Type 0
+IsUnroomed Load_reads = Unit {0}
+IsUnroomed (Asks raw slot) = Unit {0}
+IsUnroomed (Load_makes_room raw first) = ⊥
+IsUnroomed (Has raw) = Unit {0}
+
+abbrev pub ConfirmsUntagged : Place → Confirming → HeldConfirm → Type 0
+ConfirmsUntagged p Begins m = (p.counted ≡ false → is_tagged m.raw ≡ false) × (p.counted ≡ true → p.slot m.word ≢ None)
+ConfirmsUntagged p (Confirm_makes_room first) m = ⊥
+ConfirmsUntagged p Done m = Unit {0}
+
+abbrev pub SeesNoTag : Place → Working → Type 0
+SeesNoTag p (Idles hand) = Unit {0}
+SeesNoTag p (Loads m) = IsUnroomed m.at
+SeesNoTag p (VLoads m) = Unit {0}
+SeesNoTag p (Confirms m) = ConfirmsUntagged p m.at m
+SeesNoTag p (Exchanges m) = Unit {0}
+SeesNoTag p (VExchanges m) = Unit {0}
+SeesNoTag p (Stores m) = Unit {0}
+SeesNoTag p (Fences m) = Unit {0}
+SeesNoTag p (Completes m) = Unit {0}
+SeesNoTag p (Evicts m) = Unit {0}

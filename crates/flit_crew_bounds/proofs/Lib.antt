@@ -1,0 +1,13 @@
+pub mod MachineHands
+pub mod MachineLeft
+pub mod MachineFalls
+pub mod Tallying
+pub mod Sparing
+pub mod Progressing
+pub mod Searching
+pub mod OwnEvents
+pub mod Bounded
+pub mod Others
+pub mod Limited
+pub mod CrewLaws
+pub mod Written
