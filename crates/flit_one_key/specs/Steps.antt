@@ -1,18 +1,15 @@
 -- The calls of a map of at most one key: the event that each asks next, and what an answer makes of it. The row is
 -- row 1, and the head is word 0.
-use Rattle.std.specs.Prelude.{◌≡◌, ℕ, ◌+◌, ◌==◌, ◌&&◌, Bool, true, false, List, [], ◌∷◌, Option, None, is_none, slice_set, if◌then◌else◌}
+use Rattle.std.specs.Prelude.{◌≡◌, ℕ, ◌+◌, ◌==◌, Bool, List, [], ◌∷◌, slice_set, if◌then◌else◌}
 use Rattle.flit_words.specs.declared.layouts.Layout.{Layout}
 use Rattle.flit_words.specs.declared.layouts.Kind.TheVariants.{List as List_kind}
 use Rattle.flit_words.specs.Layouts.{Accepted, row_word_of, value_word_of}
 use Rattle.flit_words.specs.Words.{value_of}
 use Rattle.flit_words.specs.Links.{link_of}
-use Rattle.flit_model.specs.declared.events.Event.{Event}
 use Rattle.flit_model.specs.declared.calls.Call.{Call}
 use Rattle.flit_model.specs.declared.calls.Call.TheVariants.{Insert, Remove, Contains, Get}
 use Rattle.flit_model.specs.declared.calls.Reply.{Reply}
 use Rattle.flit_model.specs.declared.calls.Reply.TheVariants.{Yes, No, Found, Full, Worn}
-use Rattle.flit_place.specs.Tags.{Place}
-use Rattle.flit_place.specs.declared.writings.Writing.{Writing}
 use Rattle.flit_pv.specs.declared.hands.Hand.{Hand}
 use Rattle.flit_pv.specs.Loads.{HeldLoad}
 use Rattle.flit_pv.specs.declared.loads.Loading.{Loading}
@@ -30,19 +27,18 @@ use Rattle.flit_pv.specs.declared.stores.Storing.{Storing}
 use Rattle.flit_pv.specs.declared.stores.Storing.TheVariants.{Reads as Store_reads, MakesRoom as Store_makes_room, Writes, Ended as Store_ended}
 use Rattle.flit_pv.specs.declared.stores.Stored.{Stored}
 use Rattle.flit_pv.specs.declared.stores.Stored.TheVariants.{Stored as All_stored, Worn as Store_worn}
-use Rattle.flit_pv.specs.Queues.{is_nil}
 use Rattle.flit_pv.specs.Hands.{more}
-use Rattle.flit_pv.specs.Loads.{load_started, load_asked, load_taken}
-use Rattle.flit_pv.specs.VLoads.{v_load_started, v_load_asked, v_load_taken}
-use Rattle.flit_pv.specs.Stores.{store_started, store_asked, store_taken}
-use Rattle.flit_pv.specs.Exchanges.{exchange_started, exchange_asked, exchange_taken, writing_of}
-use Rattle.flit_pv.specs.Fences.{complete_started, complete_asked, complete_taken}
+use Rattle.flit_pv.specs.Loads.{load_started}
+use Rattle.flit_pv.specs.VLoads.{v_load_started}
+use Rattle.flit_pv.specs.Stores.{store_started}
+use Rattle.flit_pv.specs.Exchanges.{exchange_started}
+use Rattle.flit_pv.specs.Fences.{complete_started}
 use Rattle.flit_rows.specs.Taking.{HeldTake}
 use Rattle.flit_rows.specs.declared.take_row.Took.{Took}
 use Rattle.flit_rows.specs.declared.take_row.Took.TheVariants.{Taken, None as NoRow}
 use Rattle.flit_rows.specs.declared.take_row.Taking.{Taking}
 use Rattle.flit_rows.specs.declared.take_row.Taking.TheVariants.{Draws, Ended as Take_ended}
-use Rattle.flit_rows.specs.Taking.{take_started, take_asked, take_taken}
+use Rattle.flit_rows.specs.Taking.{take_started}
 use Rattle.flit_structure.specs.Meanings.{key_of, value_put}
 use Rattle.flit_one_key.specs.Operations.{At}
 use Rattle.flit_one_key.specs.Operations.{Head, Key, Value, Row, Words, RowValue, Link, Ends, Rests}
@@ -223,60 +219,6 @@ head_next l free op m = head_by l free op m m.at
 
 -- ---- the whole call
 
--- the event that comes next
-abbrev pub asked_at : Place → At → Option Event
-asked_at p (Head m) = load_asked m
-asked_at p (Key head m) = v_load_asked m
-asked_at p (Value m) = v_load_asked m
-asked_at p (Row head m) = take_asked m
-asked_at p (Words head m) = store_asked m
-asked_at p (RowValue head m) = store_asked m
-asked_at p (Link m) = exchange_asked p m
-asked_at p (Ends m) = complete_asked m
-asked_at p (Rests hand) = None
-
-abbrev pub op_asked : Place → HeldOp → Option Event
-op_asked p op = asked_at p op.at
-
--- the call after the event's answer
-abbrev pub taken_at : Layout → Place → List ℕ → HeldOp → At → ℕ → HeldOp
-taken_at l p free op (Head m) told = let n = load_taken p m told in head_next l free (record op { at = Head n }) n
-taken_at l p free op (Key head m) told = let n = v_load_taken m told in key_next l free (record op { at = Key head n }) head n
-taken_at l p free op (Value m) told = let n = v_load_taken m told in value_next (record op { at = Value n }) n
-taken_at l p free op (Row head m) told = let n = take_taken free m told in row_next l (record op { at = Row head n }) head n
-taken_at l p free op (Words head m) told = let n = store_taken m told in words_next l (record op { at = Words head n }) head n
-taken_at l p free op (RowValue head m) told = let n = store_taken m told in row_value_next l (record op { at = RowValue head n }) head n
-taken_at l p free op (Link m) told = let n = exchange_taken p m told in link_next (record op { at = Link n }) n
-taken_at l p free op (Ends m) told = record op { at = Ends (complete_taken m told) }
-taken_at l p free op (Rests hand) told = op
-
-abbrev pub op_taken : Layout → Place → List ℕ → HeldOp → ℕ → HeldOp
-op_taken l p free op told = taken_at l p free op op.at told
-
--- the Exchange that links or unlinks the row comes next, or without a slot its second try
-abbrev pub exchanges_now : Place → Exchanging → HeldExchange → Bool
-exchanges_now p Ready m = is_nil m.hand.queue && is_none (p.slot m.word)
-exchanges_now p (Tries slot) m = true
-exchanges_now p TriesBare m = true
-exchanges_now p WritesBack m = false
-exchanges_now p Withdraws m = false
-exchanges_now p (Lowers slot found) m = false
-exchanges_now p (Ended how) m = false
-
-abbrev pub effect_at : Place → At → Bool
-effect_at p (Head m) = false
-effect_at p (Key head m) = false
-effect_at p (Value m) = false
-effect_at p (Row head m) = false
-effect_at p (Words head m) = false
-effect_at p (RowValue head m) = false
-effect_at p (Link m) = exchanges_now p m.at m
-effect_at p (Ends m) = false
-effect_at p (Rests hand) = false
-
-abbrev pub op_effect : Place → HeldOp → Bool
-op_effect p op = effect_at p op.at
-
 -- the hand so far
 abbrev pub hand_at : At → Hand
 hand_at (Head m) = m.hand
@@ -288,15 +230,3 @@ hand_at (RowValue head m) = m.hand
 hand_at (Link m) = m.hand
 hand_at (Ends m) = m.fence.hand
 hand_at (Rests hand) = hand
-
--- its exchange under way
-abbrev pub writing_at : At → Option Writing
-writing_at (Head m) = None
-writing_at (Key head m) = None
-writing_at (Value m) = None
-writing_at (Row head m) = None
-writing_at (Words head m) = None
-writing_at (RowValue head m) = None
-writing_at (Link m) = writing_of m
-writing_at (Ends m) = None
-writing_at (Rests hand) = None

@@ -1,7 +1,8 @@
 ghost use Rattle.std.specs.Prelude.{◌≡◌, is_none};
 ghost use Rattle.flit_place.specs.Tags.{Place};
 ghost use Rattle.flit_pv.specs.Exchanges.{exchange_of};
-ghost use Rattle.flit_one_key.specs.Steps.{op_asked, exchanges_now};
+ghost use Rattle.flit_crew.specs.Machines.{machine_asks, exchanges_now};
+ghost use Rattle.flit_one_key_crew.specs.OneKeyAnatomy.{machine_at};
 
 use crate::samples::Sample;
 use crate::steps::{answers, linked_so};
@@ -33,7 +34,7 @@ fn exchanges_now<P: Placement>(hand: &Hand, place: &P, link: &PExchange) -> bool
 
 /// Whether no event comes any more: one look at the phase, and no event is made for it.
 fn rests(op: &SampleOp) -> bool
-    ensures { (p : Place) → result ≡ is_none (op_asked p op.now) }
+    ensures { (p : Place) → result ≡ is_none (machine_asks p (machine_at op.now.at)) }
 {
     match &op.at {
         Phase::Head(load) => load.loaded().is_some(),
@@ -80,6 +81,7 @@ impl<P: Placement + Drop> Structure for Sample<P> {
         op.at = Phase::Head(PLoad::start(0));
     }
 
+    #[inline(always)]
     fn ask(&self, op: &SampleOp) -> Option<Event> {
         match &op.at {
             Phase::Head(load) => load.ask(&op.hand, &self.place),
@@ -94,6 +96,7 @@ impl<P: Placement + Drop> Structure for Sample<P> {
         }
     }
 
+    #[inline(always)]
     fn take(&self, op: &mut SampleOp, answer: u64) {
         match &mut op.at {
             Phase::Head(load) => {

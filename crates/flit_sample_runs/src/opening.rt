@@ -4,7 +4,7 @@ ghost use Rattle.flit_model.specs.Lists.{link_in};
 ghost use Rattle.flit_place.specs.Tags.{IsSlot};
 ghost use Rattle.flit_model.specs.Recovery.{IsRecovery};
 ghost use Rattle.flit_one_key.specs.Steps.{IsSmall, key_word, links_none};
-ghost use Rattle.flit_one_key.specs.OneKey.{one_key};
+ghost use Rattle.flit_one_key_laws.specs.OneKey.{one_key};
 ghost use Rattle.flit_sched.specs.Openings.{AreRight, opened_run};
 ghost use Rattle.flit_sample_runs.specs.Opened.{IsSampleOf};
 

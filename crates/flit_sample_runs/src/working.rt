@@ -10,7 +10,7 @@ ghost use Rattle.flit_workers.specs.Ends.{HaveEnded};
 use flit_model::{Call, Item, Work};
 use flit_structure::Structure;
 use flit_table::{Pass, Running};
-use flit_words::{Layout, NoMemory};
+use flit_words::{GREATEST_KEY, Layout, NoMemory};
 use flit_workers::{End, Gate, run_workers};
 use std::alloc::Global;
 use std::process::Abort;
@@ -22,10 +22,10 @@ fn call_is_right(rt: &impl Abort, layout: &Layout, call: Call)
 {
     assert!(rt; layout.values);
     match call {
-        Call::Insert(key, _) => assert!(rt; key <= 4294967292),
-        Call::Remove(key) => assert!(rt; key <= 4294967292),
-        Call::Contains(key) => assert!(rt; key <= 4294967292),
-        Call::Get(key) => assert!(rt; key <= 4294967292),
+        Call::Insert(key, _) => assert!(rt; key <= GREATEST_KEY),
+        Call::Remove(key) => assert!(rt; key <= GREATEST_KEY),
+        Call::Contains(key) => assert!(rt; key <= GREATEST_KEY),
+        Call::Get(key) => assert!(rt; key <= GREATEST_KEY),
     }
 }
 

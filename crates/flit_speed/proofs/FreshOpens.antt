@@ -12,7 +12,8 @@ use Rattle.flit_hashed.specs.Slots.{slot_in_table, in_table}
 use Rattle.flit_structure.specs.Moments.{Opening}
 use Rattle.flit_structure.specs.Lawful.{IsOpening}
 use Rattle.flit_one_key.specs.Steps.{key_word, links_none}
-use Rattle.flit_one_key.specs.OneKey.{one_key, Opens}
+use Rattle.flit_one_key.specs.OneKey.{Opens}
+use Rattle.flit_one_key_laws.specs.OneKey.{one_key}
 use Rattle.flit_sched.specs.Openings.{opening_at}
 use Rattle.flit_speed.specs.Benches.{MayOpen, one_row, hashed}
 

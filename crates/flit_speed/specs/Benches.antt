@@ -11,7 +11,7 @@ use Rattle.flit_hashed.specs.declared.Hashed.{Hashed}
 use Rattle.flit_structure.specs.Moments.{Moment, Opening, with_workers, busy}
 use Rattle.flit_structure.specs.Meanings.{Meaning, replied}
 use Rattle.flit_one_key.specs.Operations.{HeldOp}
-use Rattle.flit_one_key.specs.OneKey.{one_key}
+use Rattle.flit_one_key_laws.specs.OneKey.{one_key}
 use Rattle.flit_sample.specs.declared.samples.Sample.{Sample}
 use Rattle.flit_sched.specs.Openings.{opening_at, IsBookOf}
 use Rattle.flit_speed.specs.declared.benches.Bench.{Bench}

@@ -1,5 +1,5 @@
 use Rattle.std.proofs.Common.{◌≡◌, ◌∙◌, ap, sym, subst}
-use Rattle.flit_one_key.specs.OneKey.{one_key}
+use Rattle.flit_one_key_laws.specs.OneKey.{one_key}
 use Rattle.flit_sched.specs.Openings.{opened_run}
 use Rattle.flit_sample_runs.specs.Opened.{IsSampleOf}
 use Rattle.flit_sample_runs.proofs.OpenedRuns.{sample_opens, weaker_if_ok}

@@ -1,0 +1,13 @@
+pub mod RowWords
+pub mod Stories
+pub mod Waits
+pub mod Heaps
+pub mod Knowing
+pub mod Loading
+pub mod Winning
+pub mod Resuming
+pub mod Ends
+pub mod Images
+pub mod Resumes
+pub mod Keeping
+pub mod Openings

@@ -1,0 +1,2 @@
+pub mod OneKeyAnatomy
+pub mod OneKeyCrew
