@@ -1,0 +1,10 @@
+//! Harris's list, and a hash table of such lists: the calls, over every placement of tags.
+#![tactic(auto)]
+
+mod calls;
+mod confirming;
+mod inserting;
+mod lists;
+mod searching;
+
+pub use lists::List;
