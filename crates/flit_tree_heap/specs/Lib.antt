@@ -1,0 +1,11 @@
+pub mod Edges
+pub mod Routes
+pub mod Walks
+pub mod Views
+pub mod Kept
+pub mod Later
+pub mod Exchanges
+pub mod Searches
+pub mod Opened
+pub mod SmallHeaps
+pub mod Laws
