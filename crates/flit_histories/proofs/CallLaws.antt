@@ -60,7 +60,7 @@ worn_none worker number (Remove k) word version = refl
 worn_none worker number (Contains k) word version = refl
 worn_none worker number (Get k) word version = refl
 
-all_history : (P : Entry → Type 0) (n : ℕ) (us : List Entry) (reads : List Placed) → AllByRecursion P us → AllByRecursion (λ q. P q.entry) reads →
+pub all_history : (P : Entry → Type 0) (n : ℕ) (us : List Entry) (reads : List Placed) → AllByRecursion P us → AllByRecursion (λ q. P q.entry) reads →
     AllByRecursion P (history_from n us reads)
 all_history P n [] reads h k = all-reads_at P n reads (all_map (λ q. P q.entry) (λ q. q.position ≡ n → P q.entry) (λ q x e. x) reads k)
 all_history P n (u ∷ us) reads h k =
@@ -178,6 +178,12 @@ module _ {Op : Type 0} (meaning : Meaning Op) (l : Lawful meaning) (r : Run Op) 
     evict_outcome k word is = (told_part).swept k word is
 
     module _ (k : ℕ) (call : Call) (number : ℕ) (c : IsCallAt p.items k call number) where
+      pub over_outcome : k < p.over → (reply : Reply) × (slice_get p.outcomes k ≡ Some (Some (Replied reply)))
+      over_outcome less = let o = (told_part).done k call less c.is in (o.0, o.1)
+
+      pub rest_outcome : p.over ≤ k → slice_get p.outcomes k ≡ Some (Some Stopped)
+      rest_outcome le = (told_part).waits k call le c.is
+
       pub has_outcome : (outcome : Outcome) × (slice_get p.outcomes k ≡ Some (Some outcome))
       has_outcome = by_place (cases_lt k p.over)
         where

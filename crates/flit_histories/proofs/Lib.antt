@@ -14,3 +14,11 @@ pub mod CallLaws
 pub mod SinceRuns
 pub mod HistoryOrders
 pub mod OrderLaws
+pub mod LedParts
+pub mod CallerOrder
+pub mod Licences
+pub mod CountedRuns
+pub mod QueuedRuns
+pub mod WholeImages
+pub mod Promised
+pub mod TurnOrder

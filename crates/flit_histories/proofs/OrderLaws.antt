@@ -68,7 +68,7 @@ module _ {Op : Type 0} (meaning : Meaning Op) (l : Lawful meaning) (r : Run Op) 
     sound_part = subst (λ m. IsSoundPart meaning m p) named (all_from_at (IsSoundPart meaning) 1 a b p (subst (AllFrom (IsSoundPart meaning) 1) part.is K.each))
 
     -- an entry that is made has no greater number than its worker
-    made_low : AllByRecursion (λ x. x.worker ≡ w → x.number ≤ p.worker.number) (made r.progress)
+    pub made_low : AllByRecursion (λ x. x.worker ≡ w → x.number ≤ p.worker.number) (made r.progress)
     made_low =
         all_map (IsOfHand (workers_of r.parts)) (λ x. x.worker ≡ w → x.number ≤ p.worker.number)
         (λ x h is. (let same = same_worker (workers_of r.parts) h.1.0 h.1.1 (workers_of a) (workers_of b) h.0 p.worker h.1.2
@@ -78,6 +78,12 @@ module _ {Op : Type 0} (meaning : Meaning Op) (l : Lawful meaning) (r : Run Op) 
         let e = ap (λ u. u.number) same in
         omega (arith, le, e)))
         (made r.progress) (l.entries (moment_of r K.words K.free) K.holds).numbered
+
+    -- nor has a read
+    pub reads_numbered : AllByRecursion (λ q. q.entry.worker ≡ w → q.entry.number ≤ p.worker.number) r.placed
+    reads_numbered =
+        all_map (λ q. q.entry.worker ≡ w → q.entry.number ≤ calls_in (take p.over p.items)) (λ q. q.entry.worker ≡ w → q.entry.number ≤ p.worker.number)
+        (λ q h is. (let k = h is in let n = (sound_part).number in omega (arith, k, n))) r.placed (told_part).low
 
   -- ---- a call that was over
 

@@ -22,6 +22,7 @@ use Rattle.flit_sched.proofs.StepLaws.{at}
 use Rattle.flit_histories.specs.Reached.{Leads, here, turn}
 use Rattle.flit_histories.specs.Calls.{calls_in}
 use Rattle.flit_histories.proofs.Numbers.{calls_rise}
+use Rattle.flit_histories.proofs.LedParts.{over_up}
 use Rattle.flit_histories.proofs.PartLists.{AllFrom, all_from_at, all_from_put}
 use Rattle.flit_histories.proofs.MadeLaws.{made_after}
 use Rattle.flit_histories.proofs.TurnedRuns.{Makes, ReadNow, turned_run, turned_is, makes, part_made, doing_made, progress_made}
@@ -58,10 +59,6 @@ pub record IsBehind {Op : Type 0} (r : Run Op) (w n : ℕ) (q : Run Op) : Type 0
   pub reads : AllByRecursion (λ x. x.entry.worker ≡ w → x.entry.number ≡ n → length r.progress.settled ≤ x.position) q.placed
 
 module _ {Op : Type 0} (meaning : Meaning Op) where
-  over_up : (over : ℕ) (o : Option Hand) → over ≤ over_after meaning over o
-  over_up over None = omega arith
-  over_up over (Some hand) = omega arith
-
   rests_from : (low : ℕ) (d : Doing Op) (o : Option Hand) → IsBegunFrom low d → IsBegunFrom low (rests meaning d o)
   rests_from low d None h = h
   rests_from low d (Some hand) h = tt

@@ -148,7 +148,7 @@ module _ {Op : Type 0} (meaning : Meaning Op) (l : Lawful meaning) (r : Run Op) 
   busy_most (Busy op call begun) = omega arith
   busy_most (Evicting evict) = omega arith
 
-  small : p.worker.number < 4294967295
+  pub small : p.worker.number < 4294967295
   small = let n = (here).number in let m = (here).most in let c = calls_short p.items p.over in let o = busy_most p.worker.doing in omega (arith, n, m, c, o)
 
   pub holds_entered : meaning.holds (with_workers M (workers_of a ++ u ∷ workers_of b))
@@ -224,13 +224,17 @@ module _ {Op : Type 0} (meaning : Meaning Op) (l : Lawful meaning) (r : Run Op) 
       (all_map (ReadNow meaning r.content (progress_made meaning r p e).settled u.name u.number d) (IsRightAt r.content (progress_made meaning r p e).settled)
       (λ q k. k.placed.right) reads new_reads)
 
+  pub holds_after : meaning.holds (moment_of (turned_run meaning r a p b e reads) K.words K.free)
+  holds_after =
+      subst (λ us. meaning.holds (with_workers (moment_after meaning M e (workers_of a) u (workers_of b)) us))
+      (sym (workers_joined a b (part_made meaning r p e)))
+      (leave_holds meaning l (moment_after meaning M e (workers_of a) u (workers_of b)) (workers_of a) (workers_of b) u.name u.number d holds_made)
+
   pub sound_after : IsSound meaning (turned_run meaning r a p b e reads)
   sound_after = record {
     words = K.words;
     free = K.free;
-    holds = subst (λ us. meaning.holds (with_workers (moment_after meaning M e (workers_of a) u (workers_of b)) us))
-        (sym (workers_joined a b (part_made meaning r p e)))
-        (leave_holds meaning l (moment_after meaning M e (workers_of a) u (workers_of b)) (workers_of a) (workers_of b) u.name u.number d holds_made);
+    holds = holds_after;
     each = all_from_put (IsSoundPart meaning) (IsSoundPart meaning) 1 a b p (part_made meaning r p e) (λ n x apart h. h) own_sound
         (subst (AllFrom (IsSoundPart meaning) 1) t.is K.each);
     right = right_all;

@@ -75,12 +75,12 @@ pub record IsTold {Op : Type 0} (r : Run Op) : Type 0 where
   pub read_by : AllByRecursion (λ q. HasFrom (HasCall q.entry) 1 r.parts) r.placed
   pub each : AllFrom (IsToldPart r.progress r.placed) 1 r.parts
 
-set_here : {X : Type 0} (xs : List X) (k : ℕ) (x y : X) → slice_get xs k ≡ Some y → slice_get (slice_set xs k x) k ≡ Some x
+pub set_here : {X : Type 0} (xs : List X) (k : ℕ) (x y : X) → slice_get xs k ≡ Some y → slice_get (slice_set xs k x) k ≡ Some x
 set_here [] k x y e = absurd (none-some y e)
 set_here (z ∷ xs) zero x y e = refl
 set_here (z ∷ xs) (suc k) x y e = set_here xs k x y e
 
-set_other : {X : Type 0} (xs : List X) (k j : ℕ) (x : X) → k ≢ j → slice_get (slice_set xs k x) j ≡ slice_get xs j
+pub set_other : {X : Type 0} (xs : List X) (k j : ℕ) (x : X) → k ≢ j → slice_get (slice_set xs k x) j ≡ slice_get xs j
 set_other [] k j x h = refl
 set_other (z ∷ xs) zero zero x h = absurd (h refl)
 set_other (z ∷ xs) zero (suc j) x h = refl
@@ -253,7 +253,7 @@ module _ {Op : Type 0} (meaning : Meaning Op) (l : Lawful meaning) (r : Run Op) 
     abbrev N : Moment Op
     N = moment_after meaning (sound.M meaning l r a p b e reads t K) e (workers_of a) (sound.u meaning l r a p b e reads t K) (workers_of b)
 
-    says : IsReplied meaning.layout meaning.room r.content (N).state g name number call (first_at 0 begun) reply
+    pub says : IsReplied meaning.layout meaning.room r.content (N).state g name number call (first_at 0 begun) reply
     says =
         l.replies N (workers_of a) name number op call begun reply (workers_of b) is_replied
         (subst (λ x. meaning.holds (with_workers N (workers_of a ++ at name number x ∷ workers_of b))) doing (sound.holds_made meaning l r a p b e reads t K))

@@ -5,7 +5,8 @@ use Rattle.flit_model.specs.Settling.{Progress}
 use Rattle.flit_model.specs.declared.calls.Call.{Call}
 use Rattle.flit_model.specs.declared.calls.Item.{Item}
 use Rattle.flit_model.specs.declared.calls.Item.TheVariants.{Call as Call_item, Evict as Evict_item}
-use Rattle.flit_model.specs.declared.calls.Outcome.TheVariants.{Stopped}
+use Rattle.flit_model.specs.declared.calls.Outcome.TheVariants.{Replied, Stopped}
+use Rattle.flit_model.specs.declared.calls.Reply.{Reply}
 use Rattle.flit_model.specs.declared.calls.Work.{Work}
 use Rattle.flit_model.specs.declared.found.Recovered.{Recovered}
 use Rattle.flit_structure.specs.Meanings.{Meaning}
@@ -27,6 +28,13 @@ first_waits [] k call is = absurd (none-some (Call_item call) is)
 first_waits (i ∷ items) zero call is = let same : i ≡ Call_item call = cc in ap (λ j. Some (first_outcome j)) same
 first_waits (i ∷ items) (suc k) call is = first_waits items k call is
 
+-- no outcome of the start is a reply
+pub first_waits_all : (items : List Item) (k : ℕ) (reply : Reply) → slice_get (map first_outcome items) k ≡ Some (Some (Replied reply)) → ⊥
+first_waits_all [] k reply is = none-some (Some (Replied reply)) is
+first_waits_all (Call_item call ∷ items) zero reply is = cc
+first_waits_all (Evict_item word ∷ items) zero reply is = cc
+first_waits_all (i ∷ items) (suc k) reply is = first_waits_all items k reply is
+
 first_swept : (items : List Item) (k word : ℕ) → slice_get items k ≡ Some (Evict_item word) → slice_get (map first_outcome items) k ≡ Some None
 first_swept [] k word is = absurd (none-some (Evict_item word) is)
 first_swept (i ∷ items) zero word is = let same : i ≡ Evict_item word = cc in ap (λ j. Some (first_outcome j)) same
@@ -46,7 +54,7 @@ first_told Op g name (w ∷ ws) = (
 )
 
 module _ {Op : Type 0} (meaning : Meaning Op) (l : Lawful meaning) where
-  opened_told : (start : Recovered) (works : List Work) → IsTold (opened_run meaning start works)
+  pub opened_told : (start : Recovered) (works : List Work) → IsTold (opened_run meaning start works)
   opened_told start works = record {
     made_by = nothing_is_made (λ e. HasFrom (HasCall e) 1 (first_parts {Op = Op} 1 works));
     read_by = tt;

@@ -36,13 +36,18 @@ module _ {Op : Type 0} (meaning : Meaning Op) where
     pub history : (r : Run Op) (picks : ℕ → Bool) → IsReached meaning r →
         IsRecoverable meaning.layout r.content (crash_image picks r.state) (history_with r picks)
 
-  -- A call among a worker's items has an outcome. Where it has its reply, the history has its entry just once if it is an
+  -- A call among a worker's items has an outcome: its reply where it is below the number of items that are over, and else
+  -- Stopped. Where it has its reply, the history has its entry just once if it is an
   -- update or a completed read, and else not, as after a reply Full or Worn. Where it was stopped, the history has nothing
   -- of it; but for the call that the worker is at, which may have its update, once. An Evict has no outcome. And each entry
   -- of the history is of a call among the items of the worker that it names.
   pub record CallsStandOnce : Type 0 where
     pub told : (r : Run Op) (worker : ℕ) (p : Part Op) (k : ℕ) (call : Call) (number : ℕ) → IsReached meaning r → IsCallIn r worker p k call number →
         (outcome : Outcome) × (slice_get p.outcomes k ≡ Some (Some outcome))
+    pub over : (r : Run Op) (worker : ℕ) (p : Part Op) (k : ℕ) (call : Call) (number : ℕ) → IsReached meaning r → IsCallIn r worker p k call number →
+        k < p.over → (reply : Reply) × (slice_get p.outcomes k ≡ Some (Some (Replied reply)))
+    pub rest : (r : Run Op) (worker : ℕ) (p : Part Op) (k : ℕ) (call : Call) (number : ℕ) → IsReached meaning r → IsCallIn r worker p k call number →
+        p.over ≤ k → slice_get p.outcomes k ≡ Some (Some Stopped)
     pub replied : (r : Run Op) (picks : ℕ → Bool) (worker : ℕ) (p : Part Op) (k : ℕ) (call : Call) (number : ℕ) (reply : Reply) → IsReached meaning r →
         IsCallIn r worker p k call number → slice_get p.outcomes k ≡ Some (Some (Replied reply)) →
         filter (is_of worker number) (history_with r picks) ≡ entries_of worker number call reply
@@ -69,7 +74,8 @@ module _ {Op : Type 0} (meaning : Meaning Op) where
   -- A call that was over before another began stands before it. The update of a call that is over at a run is among the
   -- updates settled there, and does not wait later; the position of its read is not behind them. The update of a call
   -- that has not begun there stands behind them, and so does its read, or just at their end. So in each history of each
-  -- later run an entry of the first call stands before an entry of the second, or both are reads of one position.
+  -- later run an entry of the first call stands before an entry of the second, or both are reads of one position. Two
+  -- entries of one worker stand in the order of their numbers.
   pub record OrderIsKept : Type 0 where
     pub updates_over : (r next : Run Op) (front : List Entry) (x : Entry) (back : List Entry) → IsReached meaning r → Leads meaning r next →
         IsOver r x.worker x.number → next.progress.settled ≡ front ++ x ∷ back → length front < length r.progress.settled
@@ -84,3 +90,5 @@ module _ {Op : Type 0} (meaning : Meaning Op) where
     pub history : (r next : Run Op) (picks : ℕ → Bool) (d e : Entry) → IsReached meaning r → Leads meaning r next → IsOver r d.worker d.number →
         IsYetToBegin r e.worker e.number → IsIn (history_with next picks) d → IsIn (history_with next picks) e →
         StandsBefore (history_with next picks) d e ⊎ AreReadsOfOne next.placed d e
+    pub callers : (r : Run Op) (picks : ℕ → Bool) (d e : Entry) → IsReached meaning r → IsIn (history_with r picks) d → IsIn (history_with r picks) e →
+        d.worker ≡ e.worker → d.number < e.number → StandsBefore (history_with r picks) d e

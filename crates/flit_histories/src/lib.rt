@@ -3,4 +3,7 @@
 
 mod laws;
 
-pub use laws::{calls_stand_once, order_is_kept, runs_are_right, updates_were_won};
+pub use laws::{
+    calls_stand_once, order_is_kept, runs_are_right, turns_keep_promises, turns_lead,
+    turns_order_calls, updates_were_won,
+};

@@ -2,6 +2,7 @@
 use Rattle.std.specs.Prelude.{◌≡◌, ◌≢◌, ℕ, ◌+◌, ◌^◌, ◌<◌, ◌≤◌, List, [], ◌∷◌, ◌++◌, length, map, take, Option, Some, None, IsSome, is_some, slice_get}
 use Rattle.std.specs.List.{AllByRecursion, Contains}
 use Rattle.std.specs.FinMap as map_of
+use Rattle.flit_words.specs.declared.limits.TheConstants.{MOST_CALLS}
 use Rattle.flit_model.specs.Maps.{Map, map_after_all}
 use Rattle.flit_model.specs.Histories.{IsRightAt}
 use Rattle.flit_model.specs.States.{State}
@@ -138,7 +139,7 @@ module _ {Op : Type 0} (meaning : Meaning Op) where
     pub shadows_raw : AllRaw r.state.shadows
     pub book : IsBook keys values (map_after_all r.content r.progress.settled)
     -- there is room for an entry and a read of each call
-    pub most : items_of players ≤ 1048576
+    pub most : items_of players ≤ MOST_CALLS
     pub entries_room : items_of players + length players ≤ entries
     pub reads_room : items_of players ≤ reads
     pub placed : length r.placed ≤ over_of players

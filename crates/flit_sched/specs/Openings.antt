@@ -2,6 +2,7 @@
 use Rattle.std.specs.Prelude.{◌≡◌, ℕ, ◌+◌, ◌<◌, ◌≤◌, Bool, true, false, List, [], ◌∷◌, length, map, zip, Option, Some, None, slice_get}
 use Rattle.std.specs.List.{AllByRecursion}
 use Rattle.std.specs.FinMap as map_of_pairs
+use Rattle.flit_words.specs.declared.limits.TheConstants.{MOST_CALLS}
 use Rattle.flit_words.specs.declared.layouts.Layout.{Layout}
 use Rattle.flit_words.specs.Layouts.{words_of}
 use Rattle.flit_model.specs.Maps.{Map}
@@ -49,10 +50,10 @@ abbrev pub item_count : List Work → ℕ
 item_count [] = 0
 item_count (w ∷ ws) = length w.items.items + item_count ws
 
--- one work for each worker, with at most 1048576 items together, each right for the layout
+-- one work for each worker, with at most so many items together, each right for the layout
 pub record AreRight (l : Layout) (works : List Work) : Type 0 where
   pub workers : length works ≡ l.workers
-  pub most : item_count works ≤ 1048576
+  pub most : item_count works ≤ MOST_CALLS
   pub items : AllByRecursion (λ w. AllByRecursion (IsRightItem l) w.items.items) works
 
 -- an item that nobody has begun; an Evict has no outcome

@@ -2,6 +2,7 @@ ghost use Rattle.std.specs.Prelude.{◌≡◌, ℕ, ◌≤◌, ◌++◌, List, N
 ghost use Rattle.std.specs.List.{AllByRecursion, Contains};
 ghost use Rattle.std.specs.FinMap as map_of;
 ghost use Rattle.std.specs.List.Sorted.{IsStrictlyIncreasing};
+ghost use Rattle.flit_words.specs.declared.limits.TheConstants.{MOST_WORKERS, MOST_CALLS};
 ghost use Rattle.flit_structure.specs.Meanings.{key_of as the_key_of};
 ghost use Rattle.flit_sched.specs.Openings.{content_of, first_outcome, item_count};
 ghost use Rattle.flit_sched.specs.Kept.{AllRaw, IsKeyed};
@@ -39,7 +40,7 @@ pub(crate) fn hire<O: Drop>(
     alloc: Global,
     works: Vec<Work>,
 ) -> Result<Vec<Player<Seat<O>>>, NoMemory>
-    requires { length works.items ≤ 64 }
+    requires { length works.items ≤ MOST_WORKERS }
     ensures { IfOk result (λ ps. AreHiredFrom 1 works.items ps.items) }
 {
     let mut players = Vec::with_capacity(alloc, works.len())?;
@@ -65,7 +66,7 @@ pub(crate) fn hire<O: Drop>(
 
 /// The number of items of all works.
 pub(crate) fn count_items(works: &[Work]) -> usize
-    requires { item_count works.now ≤ 1048576 }
+    requires { item_count works.now ≤ MOST_CALLS }
     ensures { result ≡ item_count works.now }
 {
     let mut count = 0;

@@ -1,6 +1,7 @@
 ghost use Rattle.std.specs.Prelude.{◌≡◌, ◌≢◌, ◌<◌, ◌≤◌, ℕ, List, None, Some, [], IfNone, IfSome, length, vec_len, vec_capacity};
 ghost use Rattle.std.specs.List.{AllByRecursion, Contains};
 ghost use Rattle.std.specs.List.Sorted.{IsStrictlyIncreasing};
+ghost use Rattle.flit_words.specs.declared.limits.TheConstants.{MOST_WORKERS};
 ghost use Rattle.flit_structure.specs.Meanings.{effect_by, key_of as the_key_of};
 ghost use Rattle.flit_sched.specs.Settled.{waits_after, waiters_after, raised, AreLastFrom, NoneAt, WaitsAt, Settles};
 ghost use Rattle.flit_sched.specs.Kept.{waiting_of};
@@ -24,7 +25,7 @@ pub(crate) fn wait<S: Structure>(
 )
     requires within { (word from to : ℕ) → event ≡ Event.Exchange word from to →
         word < length waiters.old.items }
-    requires small { player.old.worker.name ≤ 64 }
+    requires small { player.old.worker.name ≤ MOST_WORKERS }
     ensures waits { let m = S.meaning structure.now in
         player.new ≡ record player.old {
           waiting =

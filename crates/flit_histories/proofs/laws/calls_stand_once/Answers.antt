@@ -2,7 +2,7 @@ use Rattle.std.proofs.Common.{◌∙◌, true}
 use Rattle.flit_model.specs.declared.calls.Reply.TheVariants.{Full, Worn}
 use Rattle.flit_histories.proofs.ReachedRuns.{sound}
 use Rattle.flit_histories.proofs.ToldRuns.{told_all}
-use Rattle.flit_histories.proofs.CallLaws.{evict_outcome, has_outcome, replied_entries, stopped_entries, all_of_calls, full_none, worn_none}
+use Rattle.flit_histories.proofs.CallLaws.{evict_outcome, has_outcome, over_outcome, rest_outcome, replied_entries, stopped_entries, all_of_calls, full_none, worn_none}
 use Rattle.flit_histories.proofs.laws.calls_stand_once.Goals as goal
 
 pub returns : goal.returns
@@ -13,6 +13,12 @@ returns g c = λ s.
       told = λ r worker p k call number h at.
           has_outcome meaning laws r (sound meaning laws r h) (told_all meaning laws r h) (λ w. true) worker at.before p at.behind at.is k call number
           at.call_at;
+      over = λ r worker p k call number h at less.
+          over_outcome meaning laws r (sound meaning laws r h) (told_all meaning laws r h) (λ w. true) worker at.before p at.behind at.is k call number
+          at.call_at less;
+      rest = λ r worker p k call number h at le.
+          rest_outcome meaning laws r (sound meaning laws r h) (told_all meaning laws r h) (λ w. true) worker at.before p at.behind at.is k call number
+          at.call_at le;
       replied = λ r picks worker p k call number reply h at is.
           replied_entries meaning laws r (sound meaning laws r h) (told_all meaning laws r h) picks worker at.before p at.behind at.is k call number at.call_at
           reply is;
