@@ -16,7 +16,8 @@ use Rattle.flit_structure.proofs.Ahead.{settled_below}
 use Rattle.flit_table.specs.declared.views.Made.{Made}
 use Rattle.flit_table.specs.declared.views.Made.TheVariants.{Answered, Evicted}
 use Rattle.flit_table.specs.Views.{answered, updates_in, entries_of}
-use Rattle.flit_table.specs.Rule.{next_number, IsOneMore, Account}
+use Rattle.flit_table.specs.Rule.{next_number, Account}
+use Rattle.flit_table.specs.Orders.{IsOneMore}
 
 pub entries-append : (name : ℕ) (xs ys : List Entry) → entries_of name (xs ++ ys) ≡ entries_of name xs ++ entries_of name ys
 entries-append name xs ys = filter-append (λ e. eqb e.worker name) xs ys
@@ -114,14 +115,14 @@ answered-append (Evicted name word ∷ xs) ys = answered-append xs ys
 pub updates-append : (xs ys : List Made) → updates_in (xs ++ ys) ≡ updates_in xs ++ updates_in ys
 updates-append xs ys = ap (filter is_update) (answered-append xs ys) ∙ filter-append is_update (answered xs) (answered ys)
 
-entries_updates : (name : ℕ) (xs ys : List Made) → entries_of name (updates_in (xs ++ ys)) ≡ entries_of name (updates_in xs) ++ entries_of name (updates_in ys)
+pub entries_updates : (name : ℕ) (xs ys : List Made) → entries_of name (updates_in (xs ++ ys)) ≡ entries_of name (updates_in xs) ++ entries_of name (updates_in ys)
 entries_updates name xs ys = ap (entries_of name) (updates-append xs ys) ∙ entries-append name (updates_in xs) (updates_in ys)
 
 -- no entry of the name is among these
 abbrev pub NoneOf : ℕ → List Entry → Type 0
 NoneOf name es = AllByRecursion (λ e. e.worker ≢ name) es
 
-filter_none : (name : ℕ) (es : List Entry) → NoneOf name es → entries_of name es ≡ []
+pub filter_none : (name : ℕ) (es : List Entry) → NoneOf name es → entries_of name es ≡ []
 filter_none name [] h = refl
 filter_none name (e ∷ es) h = ap (λ b. cond b (e ∷ entries_of name es) (entries_of name es)) (ne_eqb e.worker name h.0) ∙ filter_none name es h.1
 
@@ -133,7 +134,7 @@ filter_all P p (x ∷ xs) h = by_test (p x) (filter_all P p xs h.1)
     by_test true k = (h.0, k)
     by_test false k = k
 
-none_updates : (name : ℕ) (xs : List Made) → NoneOf name (answered xs) → entries_of name (updates_in xs) ≡ []
+pub none_updates : (name : ℕ) (xs : List Made) → NoneOf name (answered xs) → entries_of name (updates_in xs) ≡ []
 none_updates name xs h = filter_none name (updates_in xs) (filter_all (λ e. e.worker ≢ name) is_update (answered xs) h)
 
 module _ {Op : Type 0} (settled : List Entry) (u : Worker Op) where

@@ -1,5 +1,5 @@
 -- A worker begins a call or an evict, and the rule is kept.
-use Rattle.std.proofs.Common.{◌≡◌, inl, inr, ℕ, ◌+◌, ◌<◌, List, [], ◌∷◌, ◌++◌, refl, sym, ◌∙◌, subst, Some, None, append-nil, le_refl}
+use Rattle.std.proofs.Common.{◌≡◌, inl, inr, ℕ, ◌+◌, ◌<◌, List, [], ◌∷◌, ◌++◌, refl, sym, ap, ◌∙◌, subst, Some, None, append-nil, le_refl}
 use Rattle.std.specs.List.{AllByRecursion}
 use Rattle.flit_words.specs.Layouts.{words_of}
 use Rattle.flit_model.specs.States.{State}
@@ -11,7 +11,7 @@ use Rattle.flit_structure.specs.declared.workers.Doing.{Doing}
 use Rattle.flit_structure.specs.declared.workers.Doing.TheVariants.{Idle}
 use Rattle.flit_structure.specs.declared.workers.Worker.{Worker}
 use Rattle.flit_structure.specs.Moments.{Moment, idle, busy, sweeper}
-use Rattle.flit_structure.specs.Meanings.{Meaning, MayStart, hand_in, Happens, beginning, evicting}
+use Rattle.flit_structure.specs.Meanings.{Meaning, MayStart, hand_in, replied, reply_at, Happens, beginning, evicting}
 use Rattle.flit_structure.specs.Lawful.{Lawful}
 use Rattle.flit_table.specs.declared.views.Logged.{Logged}
 use Rattle.flit_table.specs.declared.views.Made.{Made}
@@ -21,10 +21,12 @@ use Rattle.flit_table.specs.declared.views.Start.{Start}
 use Rattle.flit_table.specs.declared.views.Start.TheVariants.{Go, Begin, Sweep}
 use Rattle.flit_table.specs.declared.views.View.{View}
 use Rattle.flit_table.specs.Logs.{settled_in}
-use Rattle.flit_table.specs.Views.{HasName, name_of, used_of, posts_of, all_workers}
+use Rattle.flit_table.specs.Views.{HasName, name_of, used_of, posts_of, all_workers, updates_seen}
 use Rattle.flit_structure.proofs.Names.{all_map}
 use Rattle.flit_table.specs.Moves.{entered, MayEnter, entering}
-use Rattle.flit_table.specs.Rule.{IsOneMore, Account, moment_of, IsLicensed, Agrees, HasWhole, Kept}
+use Rattle.flit_table.specs.Rule.{Account, moment_of, IsLicensed, Agrees, HasWhole, Kept}
+use Rattle.flit_table.specs.Orders.{IsOneMore, StandBy}
+use Rattle.flit_table.proofs.Standing.{stand_at}
 use Rattle.flit_table.proofs.LogLaws.{continues_same}
 use Rattle.flit_table.proofs.ViewWorkers.{rest_of, posts_head}
 use Rattle.flit_table.proofs.Changes as changes
@@ -146,13 +148,15 @@ module _ {S Op : Type 0} (meaning : Meaning Op) (laws : Lawful meaning) (o : Ori
 
     pub post_kept : changes.IsChange meaning laws o v.post.worker.name before later →
         (Account (settled_in log) v.mine v.post.worker → Account (settled_in log) v.mine q.worker) → IsLicensed meaning later q →
-        Kept meaning o m log (a ++ w ∷ b)
-    post_kept c account licence =
+        (StandBy meaning (updates_seen v) v.mine v.placed v.post.worker → StandBy meaning (updates_seen v) v.mine v.placed q.worker) → Kept meaning o m log (a ++ w ∷ b)
+    post_kept c account licence standing =
         let x : Agrees meaning o log before v = changes.agrees_was meaning laws o m m log log a b v w (rest_of v) old new k in
         let others = changes.rest_others meaning laws o m m log log a b v w (rest_of v) old new k in
         let accounts : AllByRecursion (λ p. Account (settled_in log) v.mine p.worker) (v.post ∷ rest_of v) =
         subst (AllByRecursion (λ p. Account (settled_in log) v.mine p.worker)) old x.accounts in
         let licences : AllByRecursion (IsLicensed meaning before) (v.post ∷ rest_of v) = subst (AllByRecursion (IsLicensed meaning before)) old x.licensed in
+        let stands : AllByRecursion (λ p. StandBy meaning (updates_seen v) v.mine v.placed p.worker) (v.post ∷ rest_of v) =
+        subst (AllByRecursion (λ p. StandBy meaning (updates_seen v) v.mine v.placed p.worker)) old x.stand in
         let own : Agrees meaning o log later w = record {
           opened = x.opened;
           begins = x.begins;
@@ -163,12 +167,21 @@ module _ {S Op : Type 0} (meaning : Meaning Op) (laws : Lawful meaning) (o : Ori
           accounts = subst (AllByRecursion (λ p. Account (settled_in log) v.mine p.worker)) (sym new) (account accounts.0, accounts.1);
           licensed = subst (AllByRecursion (IsLicensed meaning later)) (sym new)
               (licence, changes.licences_on meaning laws o v.post.worker.name before later c (rest_of v) others licences.1);
+          stand = subst (AllByRecursion (λ p. StandBy meaning (updates_seen v) v.mine v.placed p.worker)) (sym new) (standing stands.0, stands.1);
           settled = x.settled;
           reads = x.reads;
           right = x.right;
           bounded = x.bounded;
         } in
         changes.kept_changed meaning laws o m m log log a b v w (rest_of v) old new k c (continues_same log) own (whole_put log a b v w (λ e. e) k.longest)
+
+  -- an operation that was just begun has no reply
+  not_replied : (call : Call) (doing : Doing Op) (hand : Hand) → doing ≡ Idle hand → MayStart meaning.layout hand call →
+      replied meaning (meaning.begun (hand_in meaning doing) call) ≡ None
+  not_replied call doing hand is may =
+      let first = laws.awake hand call may in
+      ap (λ d. replied meaning (meaning.begun (hand_in meaning d) call)) is
+      ∙ ap (λ a. reply_at a (meaning.reply (meaning.begun hand call))) first.1
 
   pub begins_kept : (start : Start) (a b : List (View S Op)) (v : View S Op) → 0 < v.names → MayEnter meaning start v.post → Kept meaning o m log (a ++ v ∷ b) →
       Kept meaning o m log (a ++ entering meaning start v ∷ b)
@@ -186,6 +199,8 @@ module _ {S Op : Type 0} (meaning : Meaning Op) (laws : Lawful meaning) (o : Ori
       holds)
       (call_accounts A B p.worker.name p.worker.number call (settled_in log) v.mine p.worker.doing may.0 may.1)
       (call_licensed A B p.worker.name p.worker.number call p.worker.doing may.0 may.1 may.2 holds)
+      (stand_at meaning (updates_seen v) v.mine v.placed p.worker.name p.worker.number q.worker.number p.worker.doing q.worker.doing
+      (λ n low d. not_replied call p.worker.doing may.0 may.1 may.2))
   begins_kept (Sweep word) a b v some may k =
       let p = v.post in
       let q = entered meaning (Sweep word) p in
@@ -199,3 +214,4 @@ module _ {S Op : Type 0} (meaning : Meaning Op) (laws : Lawful meaning) (o : Ori
       may.2) holds)
       (evict_accounts A B p.worker.name p.worker.number word (settled_in log) v.mine p.worker.doing may.0 may.1)
       tt
+      (stand_at meaning (updates_seen v) v.mine v.placed p.worker.name p.worker.number q.worker.number p.worker.doing q.worker.doing (λ n low d. tt))

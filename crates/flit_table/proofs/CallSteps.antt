@@ -63,6 +63,7 @@ module _ {S Op : Type 0} (meaning : Meaning Op) (laws : Lawful meaning) (o : Ori
         placed = refl;
         events = refl;
         late = le_refl _;
+        order = λ some. absurd (omega (arith, some));
         unreplied = asks_still (meaning.asked (meaning.begun hand call)) (meaning.reply (meaning.begun hand call)) first.0 first.1;
         within = λ e asked. subst (IsWithin meaning.layout) (same_some first.0 e (sym first.1 ∙ asked)) first.2;
       }
@@ -169,6 +170,7 @@ module _ {S Op : Type 0} (meaning : Meaning Op) (laws : Lawful meaning) (o : Ori
       placed = placed_now ∙ ap (λ z. v.placed ++ z) (no_reads st.reads (st.are ∙ ap reads_in (over_now None none))) ∙ append-nil v.placed;
       events = events_now;
       late = late_of r.begun r.late;
+      order = λ some. st.order;
       unreplied = none;
       within = λ d asks. st.within d (ap (λ (u : Worker Op). asked_by meaning u) moved_worker ∙ asks);
     }
@@ -220,6 +222,8 @@ module _ {S Op : Type 0} (meaning : Meaning Op) (laws : Lawful meaning) (o : Ori
               (subst (λ (u : Worker Op). AllByRecursion (λ z. first_in u.doing ≤ z.position) st.reads) moved_worker st.late);
           right = st.right;
           legal = st.legal;
+          order = st.order;
+          some = omega arith;
           history = legal_from (content_of o) 0 (updates_seen w) w.placed st.legal
               (all_weaker _ _ w.placed (right_from_start (content_of o) (updates_seen w)) st.right);
           state = rep.0;
@@ -254,7 +258,7 @@ module _ {S Op : Type 0} (meaning : Meaning Op) (laws : Lawful meaning) (o : Ori
     told_now = is_told call v (entering meaning start y) w op e n k r asked stepped
 
     at_once : (a : Option Reply) → replied meaning (meaning.taken op n) ≡ a → IsUnderWayAt meaning o Go call v w (meaning.taken op n) (k + 1) a
-    at_once None is = (tt, goes_further call v (entering meaning start y) w op e n k r asked stepped is)
+    at_once None is = (tt, goes_further call v (entering meaning start y) w op e n k r asked stepped is, λ less. refl)
     at_once (Some reply) is = comes_back call v (entering meaning start y) w op e n k r asked stepped reply is
 
     pub goes_at_call : IsUnderWayAt meaning o Go call v w (meaning.taken op n) (k + 1) (replied meaning (meaning.taken op n))

@@ -2,7 +2,7 @@
 use Rattle.std.proofs.Common.{◌≡◌, ◌≢◌, ◌⊎◌, inl, inr, ℕ, zero, suc, ◌+◌, ◌<◌, ◌≤◌, Bool, List, [], ◌∷◌, ◌++◌, length, map, slice_index, get_or, refl, sym, ◌∙◌, ap, subst, arith, append_assoc}
 use mathlib.Core.Option as maybe
 use lib.ListN.{get_elem?}
-use Rattle.std.specs.List.{AllByRecursion, range_with_len}
+use Rattle.std.specs.List.{AllByRecursion, Contains, range_with_len}
 use Rattle.std.proofs.lemmas.List.{get_or_append_left, get_or-append-add}
 use Rattle.atomic_table.specs.Table as table
 use Rattle.flit_words.specs.Layouts.{words_of}
@@ -74,6 +74,12 @@ module _ {Op : Type 0} where
   has_worker name (p ∷ ps) (inl e) = (p.worker, ([], workers_of ps, refl), e)
   has_worker name (p ∷ ps) (inr h) = let r = has_worker name ps h in (r.0, (p.worker ∷ r.1.0, r.1.1, ap (λ us. p.worker ∷ us) r.1.2), r.2)
 
+  -- a name that is found by its place
+  pub has_name : (name : ℕ) (ps : List (Post Op)) → Contains (map (λ p. p.worker.name) ps) name → HasName name ps
+  has_name name [] h = absurd (omega (arith, h.1))
+  has_name name (p ∷ ps) (zero, less, is) = inl is
+  has_name name (p ∷ ps) (suc k, less, is) = inr (has_name name ps (k, omega (arith, less), is))
+
   not_new : (name : ℕ) (ps : List (Post Op)) → HasName name ps → IsNew name (workers_of ps) → ⊥
   not_new name [] h k = h
   not_new name (p ∷ ps) (inl e) k = k.0 e
@@ -112,7 +118,7 @@ module _ {S Op : Type 0} (meaning : Meaning Op) (laws : Lawful meaning) (o : Ori
     own : (u : Worker Op) → IsAmong us u → IsAmong V u
     own u x =
         let n = named u x in
-        let r = has_worker u.name (posts_of v) (all u.name n.0 n.1) in
+        let r = has_worker u.name (posts_of v) (has_name u.name (posts_of v) (all u.name n.0 n.1)) in
         let y = here_among r.0 r.1 in
         subst (IsAmong V) (same_worker us y.0 y.1 x.0 x.1 r.0 u y.2 x.2 (laws.named M k.holds).different r.2) r.1
 
@@ -130,14 +136,14 @@ module _ {S Op : Type 0} (meaning : Meaning Op) (laws : Lawful meaning) (o : Ori
     front_names u x =
         let y = among_left (all_workers a) (V ++ all_workers b) u x in
         let n = named u (subst (λ z. IsAmong z u) (sym us_is) y) in
-        not_new u.name (posts_of v) (all u.name n.0 n.1) (all_at (λ (z : Worker Op). IsNew z.name V) x.0 x.1 u
+        not_new u.name (posts_of v) (has_name u.name (posts_of v) (all u.name n.0 n.1)) (all_at (λ (z : Worker Op). IsNew z.name V) x.0 x.1 u
         (subst (AllByRecursion (λ (z : Worker Op). IsNew z.name V)) x.2 apart.0))
 
     back_names : (u : Worker Op) → IsAmong (all_workers b) u → ⊥
     back_names u x =
         let y = among_right (all_workers a) (V ++ all_workers b) u (among_right V (all_workers b) u x) in
         let n = named u (subst (λ z. IsAmong z u) (sym us_is) y) in
-        let r = has_worker u.name (posts_of v) (all u.name n.0 n.1) in
+        let r = has_worker u.name (posts_of v) (has_name u.name (posts_of v) (all u.name n.0 n.1)) in
         let new : IsNew r.0.name (all_workers b) = all_at (λ (z : Worker Op). IsNew z.name (all_workers b)) r.1.0 r.1.1 r.0
         (subst (AllByRecursion (λ (z : Worker Op). IsNew z.name (all_workers b))) r.1.2 apart.1) in
         all_at (λ (z : Worker Op). z.name ≢ r.0.name) x.0 x.1 u (subst (AllByRecursion (λ (z : Worker Op). z.name ≢ r.0.name)) x.2 new) (sym r.2)
@@ -190,12 +196,20 @@ module _ {S Op : Type 0} (meaning : Meaning Op) (laws : Lawful meaning) (o : Ori
             (laws.crash M picks k.holds);
         unfinished = unfinished meaning laws M k.holds;
         one_each = one_each meaning laws M k.holds;
+        continues = here.begins;
+        among = here_among;
         sees = saying.seen_first meaning laws o m log a b v k;
         right = here.right;
         history = saying.history_legal meaning laws o m log a b v k;
         accounts = here.accounts;
+        order = saying.in_order meaning laws o m log a b v k;
+        whole_order = saying.whole_order meaning laws o m log a b v k;
         bounded = here.bounded;
-        gathered = λ all. (ap settled_in (sym (all_seen all)), λ word e waits. kept_here all e (unfinished meaning laws M k.holds word e waits));
+        gathered = λ all. record {
+          whole = sym (all_seen all);
+          own = own all;
+          unfinished = λ word e waits. kept_here all e (unfinished meaning laws M k.holds word e waits);
+        };
       }
 
 -- the same, of the words of the table as it is found

@@ -1,5 +1,5 @@
 -- A worker that has made an event is done with its item, where that was the last, and the rule is kept.
-use Rattle.std.proofs.Common.{◌≡◌, ℕ, ◌<◌, ◌≤◌, List, [], ◌∷◌, ◌++◌, map, refl, sym, subst, Option, Some, None, append-nil}
+use Rattle.std.proofs.Common.{◌≡◌, ap, ℕ, ◌<◌, ◌≤◌, List, [], ◌∷◌, ◌++◌, map, refl, sym, subst, Option, Some, None, append-nil}
 use Rattle.std.specs.List.{AllByRecursion}
 use Rattle.flit_model.specs.States.{State}
 use Rattle.flit_model.specs.Histories.{IsRightAt}
@@ -13,7 +13,7 @@ use Rattle.flit_pv.specs.Evicts.{evict_asked}
 use Rattle.flit_structure.specs.declared.workers.Doing.{Doing}
 use Rattle.flit_structure.specs.declared.workers.Doing.TheVariants.{Idle, Busy, Evicting}
 use Rattle.flit_structure.specs.declared.workers.Worker.{Worker}
-use Rattle.flit_structure.specs.Moments.{Moment, idle, sweeper}
+use Rattle.flit_structure.specs.Moments.{Moment, idle, busy, sweeper}
 use Rattle.flit_structure.specs.Meanings.{Meaning, Happens, finishing, evicted, first_at, replied}
 use Rattle.flit_structure.specs.Lawful.{Lawful, StandsFrom, IsReplied}
 use Rattle.flit_table.specs.declared.views.Logged.{Logged}
@@ -22,12 +22,15 @@ use Rattle.flit_table.specs.declared.views.Made.TheVariants.{Evicted}
 use Rattle.flit_table.specs.declared.views.Origin.{Origin}
 use Rattle.flit_table.specs.declared.views.View.{View}
 use Rattle.flit_table.specs.Logs.{progress_of, settled_in}
-use Rattle.flit_table.specs.Views.{content_of, updates_in, reads_in, all_workers}
+use Rattle.flit_table.specs.Views.{content_of, updates_in, reads_in, updates_seen, all_workers}
 use Rattle.flit_table.specs.Moves.{first_in, call_over, evict_over, over, rests_after_call, rests_after_evict, rests}
-use Rattle.flit_table.specs.Rule.{IsOneMore, Account, moment_of, Kept}
+use Rattle.flit_table.specs.Rule.{Account, moment_of, Kept}
+use Rattle.flit_table.specs.Orders.{IsOneMore}
 use Rattle.flit_table.proofs.ViewWorkers.{behind_first, all_around}
 use Rattle.flit_table.proofs.Accounts.{account_behind}
 use Rattle.flit_table.proofs.Beginning.{quiet_change}
+use Rattle.flit_table.specs.Orders.{StandBy}
+use Rattle.flit_table.proofs.Standing.{stand_at, stand_behind, replied_stands}
 use Rattle.flit_table.proofs.Resting as resting
 use Rattle.flit_table.proofs.Replying as replying
 
@@ -102,12 +105,16 @@ module _ {S Op : Type 0} (meaning : Meaning Op) (laws : Lawful meaning) (o : Ori
       (first_at 0 begun) reply refl r in
       let happens : Happens meaning (Some name) (at v.post.worker.doing) (at (Idle hand)) =
       subst (λ d. Happens meaning (Some name) (at d) (at (Idle hand))) (sym e) (finishing (moment_of o m log []) A name number op call begun reply B is) in
+      let busy_account : Account (settled_in log) v.mine v.post.worker → Account (settled_in log) v.mine (busy name number op call begun) =
+      subst (λ d. Account (settled_in log) v.mine v.post.worker → Account (settled_in log) v.mine (record { name = name; number = number; doing = d })) e (λ x. x) in
+      let own_account : Account (settled_in log) v.mine v.post.worker → Account {Op = Op} (settled_in log) (v.mine ++ items) (idle name number hand) =
+      subst (λ d. Account (settled_in log) v.mine (record { name = name; number = number; doing = d }) →
+      Account {Op = Op} (settled_in log) (v.mine ++ items) (idle name number hand)) (sym e)
+      (replying.replied_account (settled_in log) v.mine name number op call begun hand meaning.layout meaning.room (content_of o) m (progress_of log)
+      (first_at 0 begun) reply refl r) in
       let comes : resting.Comes meaning o log (at (Idle hand)) v (Idle hand) items placed.reads = record {
         named = (refl, tt);
-        account = subst (λ d. Account (settled_in log) v.mine (record { name = name; number = number; doing = d }) →
-            Account {Op = Op} (settled_in log) (v.mine ++ items) (idle name number hand)) (sym e)
-            (replying.replied_account (settled_in log) v.mine name number op call begun hand meaning.layout meaning.room (content_of o) m (progress_of log)
-            (first_at 0 begun) reply refl r);
+        account = own_account;
         licence = tt;
         settled = subst (λ l. AllByRecursion (StandsFrom 0 (settled_in l)) (updates_in items)) (sym whole)
             (replying.replied_settled (settled_in log) v.mine name number op call begun hand meaning.layout meaning.room (content_of o) m (progress_of log)
@@ -115,6 +122,10 @@ module _ {S Op : Type 0} (meaning : Meaning Op) (laws : Lawful meaning) (o : Ori
         are = placed.are;
         right = subst (λ l. AllByRecursion (IsRightAt (content_of o) (settled_in l)) placed.reads) (sym whole) placed.right;
         bounded = (r.bounded, tt);
+        stands = λ acc are s. subst (λ es. StandBy meaning es (v.mine ++ items) (v.placed ++ placed.reads) (idle name number hand)) (ap settled_in (sym whole))
+            (replied_stands meaning (content_of o) (settled_in log) v.mine v.placed name number op call begun hand reply is (busy_account acc) (own_account acc) are
+            (subst (λ d. StandBy meaning (settled_in log) v.mine v.placed (record { name = name; number = number; doing = d })) e
+            (subst (λ es. StandBy meaning es v.mine v.placed v.post.worker) (ap settled_in whole) s)) placed.reads placed.are placed.late placed.right);
       } in
       record {
         reads = placed.reads;
@@ -141,6 +152,8 @@ module _ {S Op : Type 0} (meaning : Meaning Op) (laws : Lawful meaning) (o : Ori
         are = refl;
         right = tt;
         bounded = tt;
+        stands = λ acc are s. stand_at meaning (updates_seen v) (v.mine ++ items) (v.placed ++ []) name number number v.post.worker.doing (Idle evict.hand)
+            (λ n low d. tt) (stand_behind meaning (updates_seen v) v.mine v.placed items [] v.post.worker tt tt s);
       } in
       record {
         reads = [];

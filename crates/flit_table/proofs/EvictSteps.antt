@@ -101,6 +101,7 @@ module _ {S Op : Type 0} (meaning : Meaning Op) (laws : Lawful meaning) (o : Ori
       mine = mine_now v y w evict (Load word) n same refl log first_stepped ∙ append-nil v.mine;
       placed = placed_now v y w evict (Load word) n same refl log first_stepped refl;
       events = events_now v y w evict (Load word) n same refl log first_stepped;
+      order = first_stepped.order;
     }
 
   -- the second
@@ -121,6 +122,7 @@ module _ {S Op : Type 0} (meaning : Meaning Op) (laws : Lawful meaning) (o : Ori
           ∙ ap (λ z. z ++ Evicted v.post.worker.name word ∷ []) r.mine;
       placed = placed_now v y w halfway (Persist word (bare_of found)) n r.same r.worker r.log second_stepped refl ∙ r.placed;
       events = events_now v y w halfway (Persist word (bare_of found)) n r.same r.worker r.log second_stepped ∙ ap (λ z. v.post.worker.name ∷ z) r.events;
+      order = second_stepped.order;
       right = second_stepped.right;
       legal = second_stepped.legal;
     }

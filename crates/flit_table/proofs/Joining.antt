@@ -17,6 +17,8 @@ use Rattle.flit_table.specs.declared.views.Post.{Post}
 use Rattle.flit_table.specs.declared.views.View.{View}
 use Rattle.flit_table.specs.Logs.{settled_in, longer_log, shorter_log}
 use Rattle.flit_table.specs.Views.{content_of, name_of, answered, updates_in, reads_in, new_posts, workers_of, posts_of, used_of, all_workers, updates_seen, HasName, both, spent}
+use Rattle.flit_table.specs.Orders.{StandBy}
+use Rattle.flit_table.proofs.Standing.{stand_grown, stand_behind, stand_before, no_reads_of}
 use Rattle.flit_table.specs.Rule.{Account, moment_of, IsLicensed, IsWithinBounds, Agrees, HasWhole, Kept}
 use Rattle.flit_table.proofs.LogLaws.{continues_same, seen_grows}
 use Rattle.flit_table.proofs.JoinedLogs.{AreJoined, logs_joined}
@@ -40,7 +42,7 @@ module _ {Op : Type 0} where
   has_right n (p ∷ ps) qs h = inr (has_right n ps qs h)
 
 module _ {S Op : Type 0} where
-  posts_both : (v w : View S Op) → 0 < v.names → posts_of (both v w) ≡ posts_of v ++ posts_of w
+  pub posts_both : (v w : View S Op) → 0 < v.names → posts_of (both v w) ≡ posts_of v ++ posts_of w
   posts_both v w some =
       let X = new_posts (suc v.name) (v.names - 1) in
       posts_head (both v w) some ∙ ap (λ (ps : List (Post Op)). v.post ∷ ps) (sym (append_assoc X v.gone (posts_of w)))
@@ -129,6 +131,29 @@ module _ {S Op : Type 0} (meaning : Meaning Op) (laws : Lawful meaning) (o : Ori
         (posts_of w) (posts_all (λ u. IsNew u.name (workers_of (posts_of v))) (posts_of w)
         (apart_turned (workers_of (posts_of v)) (workers_of (posts_of w)) apart)) y.accounts
 
+    first_stand : Agrees meaning o log M v → Agrees meaning o log M w → (more : List Entry) →
+        AllByRecursion (λ p. StandBy meaning (updates_seen v ++ more) (v.mine ++ w.mine) (v.placed ++ w.placed) p.worker) (posts_of v)
+    first_stand x y more =
+        all_zip (λ p. IsNew p.worker.name (workers_of (posts_of w))) (λ p. StandBy meaning (updates_seen v) v.mine v.placed p.worker)
+        (λ p. StandBy meaning (updates_seen v ++ more) (v.mine ++ w.mine) (v.placed ++ w.placed) p.worker)
+        (λ p n z. let none = none_of p.worker.name (used_of w)
+        (used_all (λ q. q.worker.name ≢ p.worker.name) w others (posts_all (λ u. u.name ≢ p.worker.name) (posts_of w) n)) w.mine y.items in
+        stand_behind meaning (updates_seen v ++ more) v.mine v.placed w.mine w.placed p.worker none (no_reads_of p.worker.name w.mine w.placed none y.reads)
+        (stand_grown meaning (updates_seen v) v.mine v.placed more p.worker z))
+        (posts_of v) (posts_all (λ u. IsNew u.name (workers_of (posts_of w))) (posts_of v) apart) x.stand
+
+    second_stand : Agrees meaning o log M v → Agrees meaning o log M w → (more : List Entry) →
+        AllByRecursion (λ p. StandBy meaning (updates_seen w ++ more) (v.mine ++ w.mine) (v.placed ++ w.placed) p.worker) (posts_of w)
+    second_stand x y more =
+        all_zip (λ p. IsNew p.worker.name (workers_of (posts_of v))) (λ p. StandBy meaning (updates_seen w) w.mine w.placed p.worker)
+        (λ p. StandBy meaning (updates_seen w ++ more) (v.mine ++ w.mine) (v.placed ++ w.placed) p.worker)
+        (λ p n z. let none = none_of p.worker.name (used_of v)
+        (used_all (λ q. q.worker.name ≢ p.worker.name) v some (posts_all (λ u. u.name ≢ p.worker.name) (posts_of v) n)) v.mine x.items in
+        stand_before meaning (updates_seen w ++ more) w.mine w.placed v.mine v.placed p.worker none (no_reads_of p.worker.name v.mine v.placed none x.reads)
+        (stand_grown meaning (updates_seen w) w.mine w.placed more p.worker z))
+        (posts_of w) (posts_all (λ u. IsNew u.name (workers_of (posts_of v))) (posts_of w)
+        (apart_turned (workers_of (posts_of v)) (workers_of (posts_of w)) apart)) y.stand
+
     pub both_agrees : Agrees meaning o log M v → Agrees meaning o log M w → Agrees meaning o log M (both v w)
     both_agrees x y =
         let l = logs x y in
@@ -153,6 +178,10 @@ module _ {S Op : Type 0} (meaning : Meaning Op) (laws : Lawful meaning) (o : Ori
               (all_both (λ p. Account settled (v.mine ++ w.mine) p.worker) (posts_of v) (posts_of w) (first_accounts x y) (second_accounts x y));
           licensed = subst (AllByRecursion (IsLicensed meaning M)) (sym posts)
               (all_both (IsLicensed meaning M) (posts_of v) (posts_of w) x.licensed y.licensed);
+          stand = subst (AllByRecursion (λ p. StandBy meaning (settled_in longer) (v.mine ++ w.mine) (v.placed ++ w.placed) p.worker)) (sym posts)
+              (all_both (λ p. StandBy meaning (settled_in longer) (v.mine ++ w.mine) (v.placed ++ w.placed) p.worker) (posts_of v) (posts_of w)
+              (subst (λ es. AllByRecursion (λ p. StandBy meaning es (v.mine ++ w.mine) (v.placed ++ w.placed) p.worker) (posts_of v)) (sym f.1) (first_stand x y f.0))
+              (subst (λ es. AllByRecursion (λ p. StandBy meaning es (v.mine ++ w.mine) (v.placed ++ w.placed) p.worker) (posts_of w)) (sym g.1) (second_stand x y g.0)));
           settled = subst (AllByRecursion (StandsFrom 0 (settled_in longer))) (sym (updates-append v.mine w.mine))
               (all_both (StandsFrom 0 (settled_in longer)) (updates_in v.mine) (updates_in w.mine)
               (all_map (StandsFrom 0 (updates_seen v)) (StandsFrom 0 (settled_in longer))
@@ -180,6 +209,7 @@ module _ {S Op : Type 0} (meaning : Meaning Op) (laws : Lawful meaning) (o : Ori
     counted = tt;
     accounts = tt;
     licensed = tt;
+    stand = tt;
     settled = tt;
     reads = refl;
     right = tt;

@@ -26,3 +26,5 @@ pub mod EvictSteps
 pub mod CloseLaws
 pub mod ChosenWords
 pub mod EventCounts
+pub mod NameOrders
+pub mod Standing

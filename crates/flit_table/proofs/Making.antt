@@ -158,6 +158,7 @@ module _ {S Op : Type 0} (meaning : Meaning Op) (laws : Lawful meaning) (o : Ori
         replied = is_replied (after m e) longer a b v2 some k2;
         trying = is_trying (after m e) longer a b v2 some k2;
         legal = saying.seen_legal meaning laws o (after m e) longer a b w r.kept;
+        order = saying.in_order meaning laws o (after m e) longer a b w r.kept;
         hand = has_hand (after m e) longer a b w some r.kept;
       } in
       record {

@@ -1,5 +1,6 @@
 -- A worker makes an event, and the rule is kept.
-use Rattle.std.proofs.Common.{◌≡◌, inl, inr, ℕ, ◌<◌, List, [], ◌∷◌, ◌++◌, length, refl, sym, ◌∙◌, ap, subst, Some, append-nil, arith}
+use Rattle.std.proofs.Common.{◌≡◌, inl, inr, ℕ, ◌<◌, List, [], ◌∷◌, ◌++◌, ◌≤◌, length, refl, sym, ◌∙◌, ap, subst, Some, None, append-nil, arith}
+use Rattle.std.proofs.lemmas.List.{length-append}
 use Rattle.std.specs.List.{AllByRecursion}
 use Rattle.flit_model.specs.States.{State}
 use Rattle.flit_model.specs.Effects.{after, answer}
@@ -25,7 +26,9 @@ use Rattle.flit_table.specs.declared.views.View.{View}
 use Rattle.flit_table.specs.Logs.{progress_of, settled_in, logged_by, Continues}
 use Rattle.flit_table.specs.Views.{content_of, answered, updates_in, posts_of, all_workers, updates_seen}
 use Rattle.flit_table.specs.Moves.{tried_after, moved_post, having_moved}
-use Rattle.flit_table.specs.Rule.{IsOneMore, Account, moment_of, IsLicensedIn, IsLicensed, Agrees, Kept}
+use Rattle.flit_table.specs.Rule.{Account, moment_of, IsLicensedIn, IsLicensed, Agrees, Kept}
+use Rattle.flit_table.specs.Orders.{IsOneMore, IsDoneFrom, StandBy}
+use Rattle.flit_table.proofs.Standing.{stand_at, stand_grown}
 use Rattle.flit_table.proofs.LogLaws.{log_follows, continues_same, continues_on, seen_grows}
 use Rattle.flit_table.proofs.ViewWorkers.{rest_of, posts_head}
 use Rattle.flit_table.proofs.Accounts.{AddsOne}
@@ -122,6 +125,16 @@ module _ {S Op : Type 0} (meaning : Meaning Op) (laws : Lawful meaning) (o : Ori
       (laws.licensed_own (moment_of o m log []) A name number op call begun B e start tried asked h l)
   event_licensed A B name number start tried (Evicting evict) asked h l = tt
 
+  -- its call began no earlier than what was settled then
+  done_further : (doing : Doing Op) (n : ℕ) → n ≤ length settled → IsDoneFrom meaning n doing → IsDoneFrom meaning n (goes_on meaning (length settled) doing told)
+  done_further (Idle hand) n low d = tt
+  done_further (Busy op call None) n low d = low
+  done_further (Busy op call (Some begun)) n low d = d
+  done_further (Evicting evict) n low d = tt
+
+  longer_still : (n : ℕ) (es more all : List Entry) → all ≡ es ++ more → n ≤ length es → n ≤ length all
+  longer_still n es more all is low = omega (arith, ap length is, length-append es more, low)
+
   pub moves_kept : (a b : List (View S Op)) (v : View S Op) → 0 < v.names → asked_by meaning v.post.worker ≡ Some e → Kept meaning o m log (a ++ v ∷ b) →
       Kept meaning o (after m e) (log ++ logged_by e told (effect_by meaning v.post.worker)) (a ++ having_moved meaning log e told v ∷ b)
   moves_kept a b v some asked k =
@@ -146,6 +159,10 @@ module _ {S Op : Type 0} (meaning : Meaning Op) (laws : Lawful meaning) (o : Ori
       let account = moved_account (settled_in longer) v.mine u.name u.number (length settled) u.doing
       (changes.own_account meaning laws o u.name before later c v.mine u (A, B, refl) accounts.0) in
       let licence = event_licensed A B u.name u.number v.post.start v.post.tried u.doing asked holds licences.0 in
+      let stands : AllByRecursion (λ p. StandBy meaning (updates_seen v) v.mine v.placed p.worker) (v.post ∷ rest_of v) =
+      subst (AllByRecursion (λ p. StandBy meaning (updates_seen v) v.mine v.placed p.worker)) old x.stand in
+      let seen = seen_grows v.log log x.begins in
+      let seen_low : (n : ℕ) → n ≤ length (updates_seen v) → n ≤ length settled = λ n low. longer_still n (updates_seen v) seen.0 settled seen.1 low in
       let own : Agrees meaning o longer later w = record {
         opened = x.opened;
         begins = continues_same longer;
@@ -157,6 +174,14 @@ module _ {S Op : Type 0} (meaning : Meaning Op) (laws : Lawful meaning) (o : Ori
             (account, changes.accounts_on meaning laws o u.name before later c v.mine (rest_of v) others accounts.1);
         licensed = subst (AllByRecursion (IsLicensed meaning later)) (sym new)
             (licence, changes.licences_on meaning laws o u.name before later c (rest_of v) others licences.1);
+        stand = subst (λ es. AllByRecursion (λ p. StandBy meaning es v.mine v.placed p.worker) (posts_of w)) (sym grown.1)
+            (subst (AllByRecursion (λ p. StandBy meaning (updates_seen v ++ grown.0) v.mine v.placed p.worker)) (sym new) (
+              stand_grown meaning (updates_seen v) v.mine v.placed grown.0 w.post.worker
+                  (stand_at meaning (updates_seen v) v.mine v.placed u.name u.number u.number u.doing w.post.worker.doing
+                  (λ n low d. done_further u.doing n (seen_low n low) d) stands.0),
+              all_map (λ p. StandBy meaning (updates_seen v) v.mine v.placed p.worker) (λ p. StandBy meaning (updates_seen v ++ grown.0) v.mine v.placed p.worker)
+                  (λ p s. stand_grown meaning (updates_seen v) v.mine v.placed grown.0 p.worker s) (rest_of v) stands.1,
+            ));
         settled = all_map (StandsFrom 0 (updates_seen v)) (StandsFrom 0 (updates_seen w))
             (λ d h. subst (λ es. StandsFrom 0 es d) (sym grown.1) (stands_later 0 (updates_seen v) grown.0 d h)) (updates_in v.mine) x.settled;
         reads = x.reads;

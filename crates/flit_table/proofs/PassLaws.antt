@@ -87,7 +87,7 @@ module _ {S Op : Type 0} (meaning : Meaning Op) where
         calls = counted;
         op = meaning.begun (hand_of meaning h.seat.me.0.post.worker) call;
         is = is ∙ begun_at meaning h.seat.me.0.post h.calls h.rest call free held.at;
-        at = (may, begins_runs meaning laws home.origin call h.seat.me.0 may);
+        at = (may, begins_runs meaning laws home.origin call h.seat.me.0 may, λ less. absurd (omega (arith, less)));
       }
 
   -- what stays of a pass in its call

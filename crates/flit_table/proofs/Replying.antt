@@ -20,7 +20,8 @@ use Rattle.flit_words.specs.declared.layouts.Layout.{Layout}
 use Rattle.flit_table.specs.declared.views.Made.{Made}
 use Rattle.flit_table.specs.declared.views.Made.TheVariants.{Answered}
 use Rattle.flit_table.specs.Views.{answered, updates_in, reads_in, entries_of}
-use Rattle.flit_table.specs.Rule.{IsOneMore, Account}
+use Rattle.flit_table.specs.Rule.{Account}
+use Rattle.flit_table.specs.Orders.{IsOneMore}
 use Rattle.flit_table.proofs.Accounts.{entries-append, entries_own, entry_stands, answered-append, updates-append}
 
 yes_of : (reply : Reply) → is_yes reply ≡ true → reply ≡ Yes

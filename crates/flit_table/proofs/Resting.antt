@@ -18,6 +18,8 @@ use Rattle.flit_table.specs.declared.views.Origin.{Origin}
 use Rattle.flit_table.specs.declared.views.View.{View}
 use Rattle.flit_table.specs.Logs.{settled_in}
 use Rattle.flit_table.specs.Views.{content_of, name_of, answered, updates_in, reads_in, HasName, workers_of, used_of, posts_of, updates_seen}
+use Rattle.flit_table.specs.Orders.{StandBy}
+use Rattle.flit_table.proofs.Standing.{stand_behind, no_reads_of}
 use Rattle.flit_table.specs.Rule.{Account, IsLicensed, IsWithinBounds, Agrees, Kept}
 use Rattle.flit_table.proofs.LogLaws.{continues_same}
 use Rattle.flit_table.proofs.ViewWorkers.{IsOther, rest_of, posts_head, posts_all, all_zip}
@@ -48,6 +50,9 @@ pub record Comes {S Op : Type 0} (meaning : Meaning Op) (o : Origin S) (log : Li
   pub are : map (λ r. r.entry) reads ≡ reads_in items
   pub right : AllByRecursion (IsRightAt (content_of o) (updates_seen v)) reads
   pub bounded : AllByRecursion (IsWithinBounds meaning M) (answered items)
+  pub stands : Account (settled_in log) v.mine v.post.worker → map (λ r. r.entry) v.placed ≡ reads_in v.mine →
+      StandBy meaning (updates_seen v) v.mine v.placed v.post.worker →
+      StandBy meaning (updates_seen v) (v.mine ++ items) (v.placed ++ reads) (record v.post.worker { doing = doing })
 
 module _ {S Op : Type 0} (meaning : Meaning Op) (laws : Lawful meaning) (o : Origin S) (m : State) (log : List Logged) (a b : List (View S Op)) (v : View S Op)
     (some : 0 < v.names) where
@@ -77,6 +82,17 @@ module _ {S Op : Type 0} (meaning : Meaning Op) (laws : Lawful meaning) (o : Ori
         (λ p k x. account_behind (settled_in log) p.worker v.mine items (others_entries v.post.worker.name p.worker.name items k.apart named) x)
         (rest_of v) (posts_all (IsOther before.workers v.post.worker.name) (rest_of v) others) h
 
+    rest_stands : AllByRecursion (λ i. name_of i ≡ v.post.worker.name) items → map (λ r. r.entry) reads ≡ reads_in items →
+        AllByRecursion (IsOther before.workers v.post.worker.name) (workers_of (rest_of v)) →
+        AllByRecursion (λ p. StandBy meaning (updates_seen v) v.mine v.placed p.worker) (rest_of v) →
+        AllByRecursion (λ p. StandBy meaning (updates_seen v) (v.mine ++ items) (v.placed ++ reads) p.worker) (rest_of v)
+    rest_stands named are others h =
+        all_zip (λ p. IsOther before.workers v.post.worker.name p.worker) (λ p. StandBy meaning (updates_seen v) v.mine v.placed p.worker)
+        (λ p. StandBy meaning (updates_seen v) (v.mine ++ items) (v.placed ++ reads) p.worker)
+        (λ p k x. let none = others_entries v.post.worker.name p.worker.name items k.apart named in
+        stand_behind meaning (updates_seen v) v.mine v.placed items reads p.worker none (no_reads_of p.worker.name items reads none are) x)
+        (rest_of v) (posts_all (IsOther before.workers v.post.worker.name) (rest_of v) others) h
+
     pub rest_kept : Kept meaning o m log (a ++ v ∷ b) → changes.IsChange meaning laws o v.post.worker.name before later →
         Comes meaning o log later v doing items reads → Kept meaning o m log (a ++ resting ∷ b)
     rest_kept k c i =
@@ -85,6 +101,8 @@ module _ {S Op : Type 0} (meaning : Meaning Op) (laws : Lawful meaning) (o : Ori
         let accounts : AllByRecursion (λ p. Account (settled_in log) v.mine p.worker) (v.post ∷ rest_of v) =
         subst (AllByRecursion (λ p. Account (settled_in log) v.mine p.worker)) old x.accounts in
         let licences : AllByRecursion (IsLicensed meaning before) (v.post ∷ rest_of v) = subst (AllByRecursion (IsLicensed meaning before)) old x.licensed in
+        let stands : AllByRecursion (λ p. StandBy meaning (updates_seen v) v.mine v.placed p.worker) (v.post ∷ rest_of v) =
+        subst (AllByRecursion (λ p. StandBy meaning (updates_seen v) v.mine v.placed p.worker)) old x.stand in
         let own : Agrees meaning o log later resting = record {
           opened = x.opened;
           begins = x.begins;
@@ -97,6 +115,8 @@ module _ {S Op : Type 0} (meaning : Meaning Op) (laws : Lawful meaning) (o : Ori
               (i.account accounts.0, rest_accounts i.named others accounts.1);
           licensed = subst (AllByRecursion (IsLicensed meaning later)) (sym new)
               (i.licence, changes.licences_on meaning laws o v.post.worker.name before later c (rest_of v) others licences.1);
+          stand = subst (AllByRecursion (λ p. StandBy meaning (updates_seen v) (v.mine ++ items) (v.placed ++ reads) p.worker)) (sym new)
+              (i.stands accounts.0 x.reads stands.0, rest_stands i.named i.are others stands.1);
           settled = subst (AllByRecursion (StandsFrom 0 (updates_seen v))) (sym (updates-append v.mine items))
               (all_both (StandsFrom 0 (updates_seen v)) (updates_in v.mine) (updates_in items) x.settled i.settled);
           reads = map-append (λ r. r.entry) v.placed reads ∙ ap (λ es. es ++ map (λ r. r.entry) reads) x.reads ∙ ap (λ es. reads_in v.mine ++ es) i.are

@@ -122,5 +122,9 @@ module _ {S Op : Type 0} (meanings : S → Meaning Op) (lawful : (s : S) → Law
         table.keeps,
         tt,
         subst (λ (z : List ℕ × List (View S Op)). IsRuled meaning o record { words = z.0; homes = t.homes; views = z.1 }) (λ i. (same i, views i)) ruled,
-        ((saying.here meaning laws o ruled.state ruled.log sp.front sp.back v k).notes, refl),
+        (
+          (saying.here meaning laws o ruled.state ruled.log sp.front sp.back v k).notes,
+          saying.in_order meaning laws o ruled.state ruled.log sp.front sp.back v k,
+          refl,
+        ),
       )

@@ -1,5 +1,5 @@
 -- A call of a pass, from its first event to its reply; and an evict.
-use Rattle.std.specs.Prelude.{◌≡◌, ℕ, ◌+◌, ◌≤◌, List, [], ◌∷◌, ◌++◌, map, length, replicate, true, Option, Some, None}
+use Rattle.std.specs.Prelude.{◌≡◌, ◌⊎◌, ℕ, ◌+◌, ◌<◌, ◌≤◌, List, [], ◌∷◌, ◌++◌, map, length, replicate, true, Option, Some, None}
 use Rattle.std.specs.List.{AllByRecursion}
 use Rattle.flit_model.specs.Histories.{is_update_by, IsRightAt}
 use Rattle.flit_model.specs.Maps.{IsLegal}
@@ -18,7 +18,9 @@ use Rattle.flit_table.specs.declared.views.Made.TheVariants.{Answered, Evicted}
 use Rattle.flit_table.specs.declared.views.Origin.{Origin}
 use Rattle.flit_table.specs.declared.views.View.{View}
 use Rattle.flit_table.specs.declared.views.Start.{Start}
+use Rattle.flit_table.specs.declared.views.Start.TheVariants.{Go}
 use Rattle.flit_table.specs.Logs.{Continues}
+use Rattle.flit_table.specs.Orders.{AreInOrder}
 use Rattle.flit_table.specs.Moves.{MayEnter, entering}
 use Rattle.flit_table.specs.Views.{content_of, reads_in, updates_seen, history_seen}
 
@@ -55,6 +57,7 @@ module _ {S Op : Type 0} (meaning : Meaning Op) (o : Origin S) where
     pub placed : w.placed ≡ v.placed
     pub events : w.events ≡ replicate made v.post.worker.name ++ v.events
     pub late : length (updates_seen v) ≤ first_at (length (updates_seen v)) begun
+    pub order : 0 < made → AreInOrder w
     pub unreplied : replied meaning op ≡ None
     pub within : (e : Event) → meaning.asked op ≡ Some e → IsWithin meaning.layout e
 
@@ -79,15 +82,17 @@ module _ {S Op : Type 0} (meaning : Meaning Op) (o : Origin S) where
     pub right : AllByRecursion (IsRightAt (content_of o) (updates_seen w)) w.placed
     pub legal : IsLegal (content_of o) (updates_seen w)
     pub history : IsLegal (content_of o) (history_seen w)
+    pub order : AreInOrder w
+    pub some : 0 < made
     pub state : State
     pub bounded : IsBounded meaning.layout meaning.room state (updates_seen w) reply
     pub trying : IsBelowTop (tally meaning op) →
         AreSearchesBounded meaning.layout.kind (hand_of meaning v.post.worker).tally (tally meaning op) × IsTryBounded meaning.bound w.post.tried None
 
   -- the call that began at the view v is at op, after so many events: it has no reply, and its pass, which has the view
-  -- w, begins this with its next event; or it has this reply
+  -- w, begins this with its next event, which is nothing once there were events; or it has this reply
   abbrev pub IsUnderWayAt : Start → Call → View S Op → View S Op → Op → ℕ → Option Reply → Type 0
-  IsUnderWayAt start call v w op made None = MayEnter meaning start w.post × Runs call v (entering meaning start w) op made
+  IsUnderWayAt start call v w op made None = MayEnter meaning start w.post × Runs call v (entering meaning start w) op made × (0 < made → start ≡ Go)
   IsUnderWayAt start call v w op made (Some reply) = Ends call v w op reply made
 
   abbrev pub IsAtCall : Start → Call → View S Op → View S Op → Op → ℕ → Type 0
@@ -103,6 +108,7 @@ module _ {S Op : Type 0} (meaning : Meaning Op) (o : Origin S) where
     pub mine : w.mine ≡ v.mine
     pub placed : w.placed ≡ v.placed
     pub events : w.events ≡ v.post.worker.name ∷ v.events
+    pub order : AreInOrder w
 
   -- it has made both, and is among the items made
   pub record Evicts (word : ℕ) (v w : View S Op) : Type 0 where
@@ -113,14 +119,10 @@ module _ {S Op : Type 0} (meaning : Meaning Op) (o : Origin S) where
     pub mine : w.mine ≡ v.mine ++ Evicted v.post.worker.name word ∷ []
     pub placed : w.placed ≡ v.placed
     pub events : w.events ≡ replicate 2 v.post.worker.name ++ v.events
+    pub order : AreInOrder w
     pub right : AllByRecursion (IsRightAt (content_of o) (updates_seen w)) w.placed
     pub legal : IsLegal (content_of o) (updates_seen w)
 
-module _ {S Op : Type 0} where
-  -- an evict that was stopped has made so many events and no item
-  pub record IsCut (steps : ℕ) (v w : View S Op) : Type 0 where
-    pub same : IsSamePass v w
-    pub log : Continues v.log w.log
-    pub mine : w.mine ≡ v.mine
-    pub placed : w.placed ≡ v.placed
-    pub events : w.events ≡ replicate steps v.post.worker.name ++ v.events
+  -- an evict of a word that was stopped has made no event, and its pass is as it was; or one event, the load of this word
+  abbrev pub IsCut : ℕ → ℕ → View S Op → View S Op → Type 0
+  IsCut word steps v w = ((steps ≡ 0) × (w ≡ v)) ⊎ ((steps ≡ 1) × ((found : ℕ) × Sweeps word v w found))

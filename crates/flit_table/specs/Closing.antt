@@ -1,5 +1,5 @@
 -- The end of a running structure: what its words and the view of a pass say, and what is told of them.
-use Rattle.std.specs.Prelude.{◌≡◌, ℕ, ◌+◌, ◌≤◌, ◌==◌, ◌&&◌, Bool, true, false, List, ◌++◌, map, slice_index, Some, if◌then◌else◌}
+use Rattle.std.specs.Prelude.{◌≡◌, ℕ, ◌+◌, ◌≤◌, ◌==◌, ◌&&◌, Bool, true, false, List, ◌++◌, map, Contains, slice_index, Some, if◌then◌else◌}
 use Rattle.std.specs.FinMap as map_of
 use Rattle.std.specs.List.{AllByRecursion, list_any, range_with_len}
 use Rattle.atomic_table.specs.Table as table
@@ -7,7 +7,7 @@ use Rattle.flit_model.specs.declared.found.Image.{Image}
 use Rattle.flit_words.specs.declared.layouts.Layout.{Layout}
 use Rattle.flit_words.specs.Words.{bare_of}
 use Rattle.flit_model.specs.CrashImages.{crash_image}
-use Rattle.flit_model.specs.Histories.{IsRightAt}
+use Rattle.flit_model.specs.Histories.{IsRightAt, history_of}
 use Rattle.flit_model.specs.Maps.{IsLegal}
 use Rattle.flit_model.specs.Settling.{taken_updates}
 use Rattle.flit_model.specs.States.{State, is_ahead}
@@ -15,6 +15,7 @@ use Rattle.flit_model.specs.declared.calls.Ahead.{Ahead}
 use Rattle.flit_model.specs.declared.calls.Ahead.TheVariants.{None as No_ahead, All as All_ahead, Words as Words_ahead}
 use Rattle.flit_model.specs.declared.calls.Entry.{Entry}
 use Rattle.flit_structure.specs.declared.workers.Worker.{Worker}
+use Rattle.flit_structure.specs.Moments.{IsAmong}
 use Rattle.flit_structure.specs.Meanings.{Meaning}
 use Rattle.flit_structure.specs.Lawful.{IsRecoverable, IsUnfinished}
 use Rattle.flit_table.specs.declared.told.Evidence.{Evidence}
@@ -23,8 +24,9 @@ use Rattle.flit_table.specs.declared.told.Told.{Told}
 use Rattle.flit_table.specs.declared.views.Logged.{Logged}
 use Rattle.flit_table.specs.declared.views.Origin.{Origin}
 use Rattle.flit_table.specs.declared.views.View.{View}
-use Rattle.flit_table.specs.Logs.{progress_of, settled_in}
-use Rattle.flit_table.specs.Views.{content_of, answered, HasName, workers_of, posts_of, updates_seen, history_seen}
+use Rattle.flit_table.specs.Logs.{Continues, progress_of, settled_in}
+use Rattle.flit_table.specs.Orders.{StandInOrder, AreInOrder}
+use Rattle.flit_table.specs.Views.{content_of, answered, workers_of, posts_of, names_of, updates_seen, history_seen}
 use Rattle.flit_table.specs.Rule.{Account, moment_of, IsWithinBounds}
 
 -- the words of which an image takes the value ahead
@@ -45,7 +47,16 @@ image_in picks words xs = map (λ i. word_in xs words (picks i) i) (range_with_l
 
 -- what is known of a pass, with the image
 abbrev pub known_in : {S Op : Type 0} → Layout → Ahead → Image → View S Op → Known
-known_in l ahead image v = record { layout = l; ahead = ahead; image = image; updates = updates_seen v; placed = v.placed; mine = v.mine; events = v.events }
+known_in l ahead image v = record {
+  layout = l;
+  ahead = ahead;
+  image = image;
+  names = names_of v;
+  updates = updates_seen v;
+  placed = v.placed;
+  mine = v.mine;
+  events = v.events;
+}
 
 abbrev pub known_of : {S Op : Type 0} → Evidence S Op → Known
 known_of e = known_in e.layout.value e.ahead.value e.image.value e.held.value.seat.me.0
@@ -57,10 +68,23 @@ told_by t = t.seat.me.0
 abbrev pub keeps_nothing : {S Op : Type 0} → Evidence S Op → table.State ℕ Known → Type 0
 keeps_nothing e t = Unit {0}
 
+-- each name from 1 to so many is among these; and what is told is of all names
+abbrev pub AreAllNames : ℕ → List ℕ → Type 0
+AreAllNames workers names = (name : ℕ) → 1 ≤ name → name ≤ workers → Contains names name
+
+abbrev pub TellsAllNames : Known → Type 0
+TellsAllNames t = AreAllNames t.layout.workers t.names
+
 module _ {S Op : Type 0} (meaning : Meaning Op) where
-  -- each name from 1 to the layout's workers has its worker with the pass
+  -- a pass has all names of the layout
   abbrev pub HasAllNames : View S Op → Type 0
-  HasAllNames v = (name : ℕ) → 1 ≤ name → name ≤ meaning.layout.workers → HasName name (posts_of v)
+  HasAllNames v = AreAllNames meaning.layout.workers (names_of v)
+
+  -- a pass has seen all: the log is its log, all workers are its own, and what waits is of operations that it keeps
+  pub record HasSeenAll (v : View S Op) (log : List Logged) (workers : List (Worker Op)) : Type 0 where
+    pub whole : log ≡ v.log
+    pub own : (u : Worker Op) → IsAmong workers u → IsAmong (workers_of (posts_of v)) u
+    pub unfinished : (word : ℕ) (e : Entry) → map_of.get (progress_of log).waiting word ≡ Some e → IsUnfinished meaning (workers_of (posts_of v)) e
 
   -- what the table at the end says with the view of a pass, of the image that takes the values ahead that are picked
   pub record Closes (o : Origin S) (v : View S Op) (picks : ℕ → Bool) (image : List ℕ) : Type 0 where
@@ -76,12 +100,17 @@ module _ {S Op : Type 0} (meaning : Meaning Op) where
     pub unfinished : (word : ℕ) (e : Entry) → map_of.get (progress_of log).waiting word ≡ Some e → IsUnfinished meaning workers e
     pub one_each : (x y : ℕ) (d e : Entry) → map_of.get (progress_of log).waiting x ≡ Some d → map_of.get (progress_of log).waiting y ≡ Some e →
         d.worker ≡ e.worker → x ≡ y
+    -- the log continues the pass's, and the workers of the pass are among those of the moment
+    pub continues : Continues v.log log
+    pub among : (u : Worker Op) → IsAmong (workers_of (posts_of v)) u → IsAmong workers u
     -- what the pass has seen begins it, and is legal with its reads; its names have their accounts
     pub sees : (more : List Entry) × (settled_in log ≡ updates_seen v ++ more)
     pub right : AllByRecursion (IsRightAt (content_of o) (updates_seen v)) v.placed
     pub history : IsLegal (content_of o) (history_seen v)
     pub accounts : AllByRecursion (λ p. Account (settled_in log) v.mine p.worker) (posts_of v)
+    -- each name has its completed calls in order, in the history that the pass has seen and in that of all settled updates
+    pub order : AreInOrder v
+    pub whole_order : AllByRecursion (λ p. StandInOrder (history_of (settled_in log) v.placed) v.mine p.worker) (posts_of v)
     pub bounded : AllByRecursion (IsWithinBounds meaning (moment_of o state log workers)) (answered v.mine)
-    -- a pass with all names has seen all, and what waits is of operations that it keeps
-    pub gathered : HasAllNames v → (settled_in log ≡ updates_seen v) × ((word : ℕ) (e : Entry) → map_of.get (progress_of log).waiting word ≡ Some e →
-        IsUnfinished meaning (workers_of (posts_of v)) e)
+    -- a pass with all names has seen all
+    pub gathered : HasAllNames v → HasSeenAll v log workers

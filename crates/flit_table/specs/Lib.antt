@@ -1,6 +1,7 @@
 pub mod Logs
 pub mod Views
 pub mod Moves
+pub mod Orders
 pub mod Rule
 pub mod Steps
 pub mod Places

@@ -24,6 +24,7 @@ use Rattle.flit_table.specs.Moves.{MayEnter, entered, entering}
 use Rattle.flit_table.specs.Steps.{Belongs, Home, meaning_of}
 use Rattle.flit_table.specs.Views.{workers_of, posts_of, keeper, heir, both}
 use Rattle.flit_table.specs.Logs.{Continues, shorter_log, longer_log}
+use Rattle.flit_table.specs.Orders.{AreInOrder}
 use Rattle.flit_table.specs.Rule.{first_view}
 use Rattle.flit_table.specs.Calls.{Runs, Ends, IsUnderWayAt, Evicts, IsCut}
 
@@ -135,7 +136,8 @@ module _ {S Op : Type 0} (meaning : Meaning Op) where
   abbrev pub waiting_view : Pass S Op → View S Op
   waiting_view pass = entering meaning (waits_to pass) (view_of pass)
 
-  -- a pass that has taken another in, with what that waits to begin. Of what the two have seen, one begins the other
+  -- a pass that has taken another in, with what that waits to begin. Of what the two have seen, one begins the other; and in
+  -- what it has seen now the calls of each name of both stand in order
   pub record HasTaken (other was now : Pass S Op) : Type 0 where
     pub view : view_of now ≡ both (view_of was) (waiting_view other)
     pub name : own_name now ≡ own_name was
@@ -143,6 +145,7 @@ module _ {S Op : Type 0} (meaning : Meaning Op) where
     pub calls : own_calls now ≡ own_calls was
     pub stopped : has_stopped now ≡ has_stopped was
     pub waits : waits_to now ≡ waits_to was
+    pub order : AreInOrder (view_of now)
     pub seen : Continues (shorter_log (view_of was).log (view_of other).log) (longer_log (view_of was).log (view_of other).log)
 
   -- a pass whose worker is at rest, with names of the layout
@@ -207,12 +210,13 @@ module _ {S Op : Type 0} (meanings : S → Meaning Op) (home : Home S) where
   kept_by pass = workers_of (posts_of (waiting_view its_meaning pass))
 
   -- how a call came out that began at the view v and may make so many events: it has its reply, and the pass is free; or
-  -- it has made them all, and the pass is stopped and keeps the operation
+  -- it has made them all, and the pass is stopped and keeps the operation, which has begun where it may make an event
   abbrev pub IsAnswered : Call → ℕ → View S Op → Pass S Op → Within → Type 0
   IsAnswered call steps v pass (Done reply made) = (made ≤ steps) × IsFree pass × ((op : Op) × Ends its_meaning home.origin call v (view_of pass) op reply made)
-  IsAnswered call steps v pass Stopped_call = IsStopped pass × ((op : Op) × Runs its_meaning home.origin call v (waiting_view its_meaning pass) op steps)
+  IsAnswered call steps v pass Stopped_call = IsStopped pass × (0 < steps → waits_to pass ≡ Go)
+      × ((op : Op) × Runs its_meaning home.origin call v (waiting_view its_meaning pass) op steps)
 
   -- an evict that may make so many events: it made both, or it was stopped exactly where it may not make two
   abbrev pub IsEvicted : ℕ → ℕ → View S Op → Pass S Op → Bool → Type 0
   IsEvicted word steps v pass true = (2 ≤ steps) × IsFree pass × Evicts its_meaning home.origin word v (view_of pass)
-  IsEvicted word steps v pass false = (steps < 2) × IsStopped pass × IsCut steps v (view_of pass)
+  IsEvicted word steps v pass false = (steps < 2) × IsStopped pass × (waits_to pass ≡ Go) × IsCut its_meaning home.origin word steps v (view_of pass)

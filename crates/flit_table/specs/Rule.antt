@@ -10,7 +10,7 @@ use Rattle.flit_model.specs.declared.calls.Entry.{Entry}
 use Rattle.flit_structure.specs.declared.workers.Doing.{Doing}
 use Rattle.flit_structure.specs.declared.workers.Doing.TheVariants.{Idle, Busy, Evicting}
 use Rattle.flit_structure.specs.declared.workers.Worker.{Worker}
-use Rattle.flit_structure.specs.Moments.{Moment, update_of}
+use Rattle.flit_structure.specs.Moments.{Moment}
 use Rattle.flit_structure.specs.Meanings.{Meaning}
 use Rattle.flit_structure.specs.Lawful.{StandsFrom, IsBounded}
 use Rattle.flit_table.specs.declared.views.Logged.{Logged}
@@ -19,6 +19,7 @@ use Rattle.flit_table.specs.declared.views.Origin.{Origin}
 use Rattle.flit_table.specs.declared.views.Post.{Post}
 use Rattle.flit_table.specs.declared.views.View.{View}
 use Rattle.flit_table.specs.Logs.{progress_of, Continues}
+use Rattle.flit_table.specs.Orders.{IsOneMore, StandBy}
 use Rattle.flit_table.specs.Views.{opening_of, content_of, name_of, answered, updates_in, reads_in, entries_of, HasName, posts_of, used_of, all_workers, updates_seen, newcomer}
 
 -- the words of the table behind word 0
@@ -31,18 +32,6 @@ module _ {Op : Type 0} where
   next_number number (Idle hand) = number + 1
   next_number number (Busy op call begun) = number
   next_number number (Evicting evict) = number + 1
-
-  -- the entry is the update of the call under way
-  abbrev pub IsUnderWayIn : ℕ → ℕ → Doing Op → Entry → Type 0
-  IsUnderWayIn name number (Idle hand) e = ⊥
-  IsUnderWayIn name number (Busy op call begun) e = e ≡ update_of name number call
-  IsUnderWayIn name number (Evicting evict) e = ⊥
-
-  -- at most one entry, of the worker's unfinished call
-  abbrev pub IsOneMore : Worker Op → List Entry → Type 0
-  IsOneMore u [] = Unit {0}
-  IsOneMore u (e ∷ []) = IsUnderWayIn u.name u.number u.doing e
-  IsOneMore u (e ∷ (d ∷ ds)) = ⊥
 
   -- the entries of a worker's name among the settled updates are the updates of its calls in `mine`, each once and in
   -- order, and at most one more, of its unfinished call
@@ -91,6 +80,8 @@ module _ {S Op : Type 0} (meaning : Meaning Op) where
     -- what has been said to the callers: of each name
     pub accounts : AllByRecursion (λ p. Account M.progress.settled v.mine p.worker) (posts_of v)
     pub licensed : AllByRecursion (IsLicensed meaning M) (posts_of v)
+    -- and in order: each name's completed calls stand by a number of the updates that it has seen
+    pub stand : AllByRecursion (λ p. StandBy meaning (updates_seen v) v.mine v.placed p.worker) (posts_of v)
     -- each update has been seen; each completed read has its place, where its reply is right; and each bound holds
     pub settled : AllByRecursion (StandsFrom 0 (updates_seen v)) (updates_in v.mine)
     pub reads : map (λ r. r.entry) v.placed ≡ reads_in v.mine

@@ -22,6 +22,7 @@ use Rattle.flit_table.specs.declared.views.Post.{Post}
 use Rattle.flit_table.specs.declared.views.Start.{Start}
 use Rattle.flit_table.specs.declared.views.View.{View}
 use Rattle.flit_table.specs.Logs.{progress_of, Continues}
+use Rattle.flit_table.specs.Orders.{AreInOrder}
 use Rattle.flit_table.specs.Views.{content_of, reads_in, updates_seen}
 use Rattle.flit_table.specs.Moves.{first_in, over_at, entering, having_moved, having_rested}
 
@@ -65,6 +66,8 @@ module _ {S Op : Type 0} (meaning : Meaning Op) where
     pub replied : IsRepliedIn o moved.log moved.post.worker.name moved.post.worker.number moved.post.worker.doing
     pub trying : IsTrying meaning moved.post moved.post.worker.doing
     pub legal : IsLegal (content_of o) (updates_seen w)
+    -- and that the calls of each name stand in order in what has been seen
+    pub order : AreInOrder w
     pub hand : ((hand_of meaning w.post.worker).name ≡ w.post.worker.name) × ((hand_of meaning w.post.worker).number ≡ w.post.worker.number)
 
   -- what an event tells, of the view before, its answer and the view after
@@ -90,9 +93,9 @@ module _ {S Op : Type 0} (meanings : S → Meaning Op) where
   carried start v = carrying v.origin start v
 
 module _ {S Op : Type 0} where
-  -- the last load of a join: the shorter log begins the longer
+  -- the last load of a join: the shorter log begins the longer, and the calls of each name stand in order
   abbrev pub Learns : Step ℕ → Me ℕ (View S Op) → ℕ → Me ℕ (View S Op) → Type 0
-  Learns st me n later = Continues me.0.note me.0.log × (later ≡ me)
+  Learns st me n later = Continues me.0.note me.0.log × AreInOrder me.0 × (later ≡ me)
 
 -- what callers see of a running structure: where it was opened, and its table
 pub record Home (S : Type 0) : Type 0 where

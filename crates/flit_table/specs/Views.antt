@@ -81,6 +81,10 @@ module _ {S Op : Type 0} where
   abbrev pub used_of : View S Op → List (Post Op)
   used_of v = v.post ∷ v.gone
 
+  -- the names that a pass has: those that it owns, and those that have ended in it
+  abbrev pub names_of : View S Op → List ℕ
+  names_of v = map (λ p. p.worker.name) (posts_of v)
+
   -- the workers of all views
   abbrev pub all_workers : List (View S Op) → List (Worker Op)
   all_workers [] = []

@@ -2,6 +2,7 @@ ghost use Rattle.std.specs.Prelude.{◌≡◌, ℕ, ◌<◌, ◌≤◌, List, �
 ghost use Rattle.std.specs.List.{AllByRecursion};
 ghost use Rattle.flit_model.specs.CrashImages.{crash_image};
 ghost use Rattle.flit_model.specs.Effects.{after, answer};
+ghost use Rattle.flit_model.specs.Histories.{history_of};
 ghost use Rattle.flit_model.specs.Maps.{IsLegal, map_after_all};
 ghost use Rattle.flit_model.specs.Settling.{taken_updates};
 ghost use Rattle.flit_model.specs.States.{State, state_from};
@@ -16,7 +17,8 @@ ghost use Rattle.flit_table.specs.declared.views.Origin.{Origin};
 ghost use Rattle.flit_table.specs.declared.views.Start.{Start};
 ghost use Rattle.flit_table.specs.declared.views.View.{View};
 ghost use Rattle.flit_table.specs.Logs.{progress_of, settled_in, logged_by};
-ghost use Rattle.flit_table.specs.Views.{opening_of, content_of, updates_seen, history_seen, all_workers, keeper, heir, both, spent};
+ghost use Rattle.flit_table.specs.Orders.{StandInOrder, AreInOrder};
+ghost use Rattle.flit_table.specs.Views.{opening_of, content_of, posts_of, updates_seen, history_seen, all_workers, keeper, heir, both, spent};
 ghost use Rattle.flit_table.specs.Moves.{MayEnter, entering, having_moved, having_rested, first_in};
 ghost use Rattle.flit_table.specs.Rule.{Kept, first_view};
 
@@ -71,7 +73,8 @@ pub fn seats_keep<S: Structure>()
 {}
 
 /// Under the rule every crash image is lawful, and has the map after the settled updates and those that it takes; the
-/// names of all views are different; and what a pass has seen begins the settled updates and is legal, with its reads.
+/// names of all views are different; what a pass has seen begins the settled updates and is legal, with its reads; and the
+/// completed calls of each of its names stand once and in order in what it has seen, and among all settled updates.
 pub fn rule_says<S: Structure>()
     ensures crash { (o : Origin S) (m : State) (log : List Logged) (views : List (View S S.Op))
         (picks : ℕ → Bool) → Kept (S.meaning o.structure.value) o m log views →
@@ -89,4 +92,8 @@ pub fn rule_says<S: Structure>()
         (v : View S S.Op) → Kept (S.meaning o.structure.value) o m log (a ++ v ∷ b) →
         map_after_all (content_of o) (history_seen v) ≡ map_after_all (content_of o)
         (updates_seen v) }
+    ensures order { (o : Origin S) (m : State) (log : List Logged) (a b : List (View S S.Op))
+        (v : View S S.Op) → Kept (S.meaning o.structure.value) o m log (a ++ v ∷ b) →
+        AreInOrder v × AllByRecursion (λ p. StandInOrder (history_of (settled_in log) v.placed)
+        v.mine p.worker) (posts_of v) }
 {}

@@ -16,6 +16,8 @@ pub struct Known {
     pub layout: Layout,
     pub ahead: Ahead,
     pub image: Image,
+    /// The names that the pass has: those that it owns, and those that have ended in it.
+    pub names: LinkedList<u32>,
     /// The updates that the pass has seen, and the completed reads with their positions.
     pub updates: LinkedList<Entry>,
     pub placed: LinkedList<Placed>,

@@ -5,6 +5,7 @@ use Rattle.std.specs.List.{AllByRecursion}
 use Rattle.flit_model.specs.declared.calls.Outcome.TheVariants.{Stopped}
 use Rattle.flit_model.specs.declared.calls.Work.{Work}
 use Rattle.flit_structure.specs.Meanings.{Meaning}
+use Rattle.flit_table.specs.declared.views.Origin.{Origin}
 use Rattle.flit_table.specs.declared.views.View.{View}
 use Rattle.flit_table.specs.Steps.{Home, meaning_of}
 use Rattle.flit_workers.specs.declared.ends.End.{End}
@@ -12,6 +13,12 @@ use Rattle.flit_workers.specs.Works.{calls_in, IsRightItem, IsWorked}
 use Rattle.flit_workers.specs.Ends.{AllInOrder, share, MayRun, HasRun, IsReady, HasEnded}
 
 module _ {S Op : Type 0} (meanings : S → Meaning Op) (home : Home S) (v : View S Op) where
+  abbrev meaning : Meaning Op
+  meaning = meaning_of meanings home
+
+  abbrev o : Origin S
+  o = home.origin
+
   may_run : (n : ℕ) (w : Work) (e : End S Op) → AllByRecursion (IsRightItem (meaning_of meanings home).layout) w.items.items → length w.items.items ≤ 4294967295
       → IsReady meanings home n v w e → MayRun meanings home e
   may_run n w e right most r = record {
@@ -37,10 +44,10 @@ module _ {S Op : Type 0} (meanings : S → Meaning Op) (home : Home S) (v : View
     work = h.work ∙ r.work;
     pass = h.pass;
     worked =
-        subst (λ (u : Work). IsWorked u.items.items u.stop f.outcomes.items (v.name + n) 0 (share n v) f.pass.held.seat.me.0) r.work
-        (subst (λ (k : ℕ). IsWorked e.work.items.items e.work.stop f.outcomes.items k 0 (share n v) f.pass.held.seat.me.0) r.name
-        (subst (λ (k : ℕ). IsWorked e.work.items.items e.work.stop f.outcomes.items e.pass.held.name k (share n v) f.pass.held.seat.me.0) r.calls
-        (subst (λ (u : View S Op). IsWorked e.work.items.items e.work.stop f.outcomes.items e.pass.held.name e.pass.held.calls u f.pass.held.seat.me.0) r.view
+        subst (λ (u : Work). IsWorked meaning o u.items.items u.stop f.outcomes.items (v.name + n) 0 (share n v) f.pass) r.work
+        (subst (λ (k : ℕ). IsWorked meaning o e.work.items.items e.work.stop f.outcomes.items k 0 (share n v) f.pass) r.name
+        (subst (λ (k : ℕ). IsWorked meaning o e.work.items.items e.work.stop f.outcomes.items e.pass.held.name k (share n v) f.pass) r.calls
+        (subst (λ (u : View S Op). IsWorked meaning o e.work.items.items e.work.stop f.outcomes.items e.pass.held.name e.pass.held.calls u f.pass) r.view
         h.worked)));
   }
 

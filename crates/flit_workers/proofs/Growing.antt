@@ -1,5 +1,5 @@
 -- What a worker's items add to its pass, one item after another.
-use Rattle.std.proofs.Common.{◌≡◌, ℕ, ◌+◌, ◌<◌, ◌≤◌, List, [], ◌∷◌, ◌++◌, Option, Some, None, length, map, take, drop, replicate, refl, sym, ap, ◌∙◌, subst, arith, append-nil, append_assoc, add-one, suc, get_or, drop-cons}
+use Rattle.std.proofs.Common.{◌≡◌, ℕ, zero, ◌+◌, ◌<◌, ◌≤◌, List, [], ◌∷◌, ◌++◌, Option, Some, None, length, map, take, drop, replicate, refl, sym, ap, ◌∙◌, subst, arith, append-nil, append_assoc, add-one, suc, get_or, drop-cons}
 use Rattle.std.proofs.lemmas.List.{length-append, length-map, map-append, replicate-append-replicate, take_more, take-append-drop, length-take-le, drop_all}
 use Rattle.std.proofs.Math.ListN.{set}
 use Rattle.flit_model.proofs.Elements.{all-append}
@@ -12,16 +12,18 @@ use Rattle.flit_model.specs.declared.calls.Outcome.TheVariants.{Replied, Stopped
 use Rattle.flit_model.specs.declared.calls.Reply.{Reply}
 use Rattle.flit_table.specs.declared.views.Made.{Made}
 use Rattle.flit_table.specs.declared.views.Made.TheVariants.{Answered, Evicted}
+use Rattle.flit_table.specs.declared.views.Origin.{Origin}
 use Rattle.flit_table.specs.declared.views.View.{View}
 use Rattle.flit_table.specs.declared.passes.Pass.{Pass}
 use Rattle.flit_structure.specs.Meanings.{Meaning}
 use Rattle.flit_table.specs.Steps.{Home}
 use Rattle.flit_table.specs.Calls.{IsSamePass}
-use Rattle.flit_table.specs.Passes.{BelongsTo}
+use Rattle.flit_table.specs.Passes.{BelongsTo, IsFree}
+use Rattle.flit_table.specs.Orders.{AreInOrder}
 use Rattle.flit_table.specs.Views.{name_of, answered}
 use Rattle.flit_table.proofs.Accounts.{answered-append}
 use Rattle.flit_table.proofs.LogLaws.{continues_same, continues_on}
-use Rattle.flit_workers.specs.Works.{item_of, EndsAt, reply_of, calls_in, AreNumberedFrom, outcomes_of, Grows, IsMade, HasMade, IsWorked}
+use Rattle.flit_workers.specs.Works.{item_of, EndsAt, reply_of, calls_in, AreNumberedFrom, outcomes_of, IsInOrderAfter, Grows, IsMade, IsInItem, IsCutWithin, StandsAt, HasMade, IsWorked}
 
 numbered-append : (n : ℕ) (xs ys : List Entry) → AreNumberedFrom n xs → AreNumberedFrom (n + length xs) ys → AreNumberedFrom n (xs ++ ys)
 numbered-append n [] ys h k = subst (λ (m : ℕ). AreNumberedFrom m ys) (omega arith) k
@@ -65,6 +67,14 @@ module _ {S Op : Type 0} where
     numbered = subst (AreNumberedFrom number) (sym (answered-append xs ys)) (numbered-append number (answered xs) (answered ys) h.numbered k.numbered);
     events = events_on name m n u.events v.events w.events h.events k.events;
   }
+
+  -- after an event all stands in order
+  pub order_after : (n : ℕ) (v w : View S Op) → 0 < n → AreInOrder w → IsInOrderAfter n v w
+  order_after zero v w some h = absurd (omega (arith, some))
+  order_after (suc n) v w some h = h
+
+  order_on : (m n : ℕ) (v w : View S Op) → 0 < n → AreInOrder w → IsInOrderAfter (m + n) v w
+  order_on m n v w some h = order_after (m + n) v w (omega (arith, some)) h
 
 set_next : {X : Type 0} (xs : List X) (y z : X) (ys : List X) → set (xs ++ y ∷ ys) (length xs) z ≡ xs ++ z ∷ ys
 set_next [] y z ys = refl
@@ -139,6 +149,7 @@ module _ {S Op : Type 0} where
           record {
             made = m.made ++ Answered e ∷ [];
             grows = grows_by g h i m.made (Answered e) count n replied name m.calls m.counted m.grows grows;
+            order = order_on count n g.held.seat.me.0 i.held.seat.me.0 im.some im.order;
             front = front_more items k d m.made (Answered e) within m.front is;
             are = ap (λ (l : List Outcome). set l replied (Replied r)) from ∙ ap
                 (λ (j : ℕ). set (outcomes_of m.made (Call_item e.call ∷ drop (k + 1) items)) j (Replied r)) m.counted
@@ -167,6 +178,7 @@ module _ {S Op : Type 0} where
           record {
             made = m.made ++ Evicted owner word ∷ [];
             grows = grows_by g h i m.made (Evicted owner word) count n replied name m.calls m.counted m.grows grows;
+            order = order_on count n g.held.seat.me.0 i.held.seat.me.0 im.some im.order;
             front = front_more items k d m.made (Evicted owner word) within m.front is;
             are = from ∙ evicted_more m.made owner word word (drop (k + 1) items);
             counted = m.counted ∙ sym (ap length (answered-append m.made (Evicted owner word ∷ []) ∙ append-nil (answered m.made)));
@@ -178,6 +190,7 @@ module _ {S Op : Type 0} where
   made_none items g = record {
     made = [];
     grows = grows_none g.held.name g.held.calls g.held.seat.me.0;
+    order = refl;
     front = refl;
     are = refl;
     counted = refl;
@@ -209,37 +222,69 @@ module _ {S Op : Type 0} where
   made_few items k os replied count g h within m =
       omega (arith, m.counted, answered_short m.made, sym (length-map m.made item_of) ∙ ap length m.front ∙ length-take-le k items within)
 
-  -- the worker is at its end
-  pub worked_here : (items : List Item) (k : ℕ) (os : List Outcome) (replied count : ℕ) (stop : Option ℕ) (g h : Pass S Op) →
+module _ {S Op : Type 0} (meaning : Meaning Op) (o : Origin S) where
+  -- the worker is at its end, between its items
+  pub worked_here : (items : List Item) (k : ℕ) (os : List Outcome) (replied count : ℕ) (stop : Option ℕ) (g h : Pass S Op) → IsFree h →
       HasMade items k os replied count g h → EndsAt stop count (drop k items) →
-      IsWorked items stop os g.held.name g.held.calls g.held.seat.me.0 h.held.seat.me.0
-  worked_here items k os replied count stop g h m ends = record {
+      IsWorked meaning o items stop os g.held.name g.held.calls g.held.seat.me.0 h
+  worked_here items k os replied count stop g h free m ends = record {
     made = m.made;
     count = count;
     grows = m.grows;
+    order = m.order;
     rest = drop k items;
     front = sym (take-append-drop k items) ∙ ap (λ (l : List Item). l ++ drop k items) (sym m.front);
     ends = ends;
     are = m.are;
+    before = count;
+    further = 0;
+    counted = omega arith;
+    between = h.held.seat.me.0;
+    over = m.grows;
+    stands = (free, refl, m.calls ∙ ap (λ (j : ℕ). g.held.calls + j) m.counted);
   }
 
+  in_item_order : (item : Item) (n calls : ℕ) (v : View S Op) (h : Pass S Op) → 0 < n → IsInItem meaning o item n calls v h → AreInOrder h.held.seat.me.0
+  in_item_order (Call_item call) n calls v h some x = x.1.1.order some
+  in_item_order (Evict_item word) n calls v h some x = x.2.1.order
+
+  stands_in : (n : ℕ) (items : List Item) (k : ℕ) (d : Item) (calls : ℕ) (h i : Pass S Op) → 0 < n → k < length items → h.held.calls ≡ calls →
+      IsCutWithin meaning o (get_or items k d) n h i → StandsAt meaning o n (drop k items) calls h.held.seat.me.0 i
+  stands_in zero items k d calls h i some within is cut = absurd (omega (arith, some))
+  stands_in (suc n) items k d calls h i some within is cut =
+      subst (λ (l : List Item). StandsAt meaning o (suc n) l calls h.held.seat.me.0 i) (sym (next_item items k d (get_or items k d) within refl)) (
+        cut.stopped,
+        cut.waits some,
+        subst (λ (c : ℕ). IsInItem meaning o (get_or items k d) (suc n) c h.held.seat.me.0 i) is (cut.inside some),
+      )
+
   -- it was stopped within an item
-  pub worked_stopped : (items : List Item) (k : ℕ) (os : List Outcome) (replied count n : ℕ) (stop : Option ℕ) (g h i : Pass S Op) → h.held.name ≡ g.held.name →
+  pub worked_stopped : (items : List Item) (k : ℕ) (d : Item) (os : List Outcome) (replied count n : ℕ) (stop : Option ℕ) (g h i : Pass S Op) →
+      k < length items → 0 < n → h.held.name ≡ g.held.name →
       HasMade items k os replied count g h
-      → Grows h.held.name h.held.calls [] n h.held.seat.me.0 i.held.seat.me.0 → EndsAt stop (count + n) (drop k items) →
-      IsWorked items stop os g.held.name g.held.calls g.held.seat.me.0 i.held.seat.me.0
-  worked_stopped items k os replied count n stop g h i name m cut ends =
+      → IsCutWithin meaning o (get_or items k d) n h i → EndsAt stop (count + n) (drop k items) →
+      IsWorked meaning o items stop os g.held.name g.held.calls g.held.seat.me.0 i
+  worked_stopped items k d os replied count n stop g h i within some name m cut ends =
+      let calls : h.held.calls ≡ g.held.calls + length (answered m.made) = m.calls ∙ ap (λ (j : ℕ). g.held.calls + j) m.counted in
       let on = grows_on g.held.name g.held.calls count n m.made [] g.held.seat.me.0 h.held.seat.me.0 i.held.seat.me.0 m.grows
-      (subst (λ (j : ℕ). Grows g.held.name j [] n h.held.seat.me.0 i.held.seat.me.0) (m.calls ∙ ap (λ (j : ℕ). g.held.calls + j) m.counted)
-      (subst (λ (j : ℕ). Grows j h.held.calls [] n h.held.seat.me.0 i.held.seat.me.0) name cut)) in
+      (subst (λ (j : ℕ). Grows g.held.name j [] n h.held.seat.me.0 i.held.seat.me.0) calls
+      (subst (λ (j : ℕ). Grows j h.held.calls [] n h.held.seat.me.0 i.held.seat.me.0) name cut.grows)) in
       record {
         made = m.made;
         count = count + n;
         grows = subst (λ (l : List Made). Grows g.held.name g.held.calls l (count + n) g.held.seat.me.0 i.held.seat.me.0) (append-nil m.made) on;
+        order = order_on count n g.held.seat.me.0 i.held.seat.me.0 some
+            (in_item_order (get_or items k d) n h.held.calls h.held.seat.me.0 i some (cut.inside some));
         rest = drop k items;
         front = sym (take-append-drop k items) ∙ ap (λ (l : List Item). l ++ drop k items) (sym m.front);
         ends = ends;
         are = m.are;
+        before = count;
+        further = n;
+        counted = refl;
+        between = h.held.seat.me.0;
+        over = m.grows;
+        stands = stands_in n items k d (g.held.calls + length (answered m.made)) h i some within calls cut;
       }
 
 -- a pass keeps its name

@@ -1,5 +1,5 @@
 -- Works and their workers, one after another.
-use Rattle.std.proofs.Common.{◌≡◌, ℕ, zero, suc, map, Option, IsSome, ◌+◌, ◌-◌, ◌<◌, ◌≤◌, List, [], ◌∷◌, ◌++◌, length, drop, get_or, refl, sym, ap, ◌∙◌, subst, arith, add-one, drop-cons}
+use Rattle.std.proofs.Common.{◌≡◌, ℕ, zero, suc, map, Option, ◌+◌, ◌-◌, ◌<◌, ◌≤◌, List, [], ◌∷◌, ◌++◌, length, drop, get_or, refl, sym, ap, ◌∙◌, subst, arith, add-one, drop-cons}
 use Rattle.flit_model.specs.declared.calls.Item.{Item}
 use Rattle.flit_model.specs.declared.calls.Item.TheVariants.{Call as Call_item, Evict as Evict_item}
 use Rattle.flit_workers.specs.Works.{calls_in}

@@ -49,7 +49,8 @@ module _ {S Op : Type 0} (meanings : S → Meaning Op) (home : Home S) where
   pub record HasRun (e f : End S Op) : Type 0 where
     pub work : f.work ≡ e.work
     pub pass : BelongsTo meanings home f.pass
-    pub worked : IsWorked e.work.items.items e.work.stop f.outcomes.items (own_name e.pass) (own_calls e.pass) (view_of e.pass) (view_of f.pass)
+    pub worked : IsWorked (meaning_of meanings home) home.origin e.work.items.items e.work.stop f.outcomes.items (own_name e.pass) (own_calls e.pass)
+        (view_of e.pass) f.pass
 
   -- a worker has its pass, and room for its outcomes
   pub record IsReady (n : ℕ) (v : View S Op) (w : Work) (e : End S Op) : Type 0 where
@@ -65,7 +66,7 @@ module _ {S Op : Type 0} (meanings : S → Meaning Op) (home : Home S) where
   pub record HasEnded (n : ℕ) (v : View S Op) (w : Work) (e : End S Op) : Type 0 where
     pub work : e.work ≡ w
     pub pass : BelongsTo meanings home e.pass
-    pub worked : IsWorked w.items.items w.stop e.outcomes.items (v.name + n) 0 (share n v) (view_of e.pass)
+    pub worked : IsWorked (meaning_of meanings home) home.origin w.items.items w.stop e.outcomes.items (v.name + n) 0 (share n v) e.pass
 
   -- all workers are ready; and all have ended
   abbrev pub AreReady : View S Op → List Work → List (End S Op) → Type 0

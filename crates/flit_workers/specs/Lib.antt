@@ -1,2 +1,3 @@
 pub mod Works
 pub mod Ends
+pub mod Gathered

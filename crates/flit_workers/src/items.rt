@@ -1,11 +1,13 @@
 ghost use Rattle.std.specs.Prelude.{◌≡◌, ℕ, ◌+◌, ◌-◌, ◌<◌, ◌≤◌, [], ◌∷◌, ◌++◌, true, false, IsSome, IsNone, IfSome, IfNone};
 ghost use Rattle.flit_words.specs.Layouts.{words_of};
+ghost use Rattle.flit_model.specs.declared.calls.Item.TheVariants.{Call as Call_item};
 ghost use Rattle.flit_structure.specs.Meanings.{IsServed};
 ghost use Rattle.flit_table.specs.declared.views.Made.TheVariants.{Answered, Evicted};
 ghost use Rattle.flit_table.specs.Calls.{entry_of};
+ghost use Rattle.flit_table.specs.Orders.{AreInOrder};
 ghost use Rattle.flit_table.specs.Passes.{BelongsTo, MayWork, MayCall, MayEvict, IsFree, view_of, own_name, own_calls};
 ghost use Rattle.flit_table.specs.Steps.{meaning_of};
-ghost use Rattle.flit_workers.specs.Works.{Grows, IsRightItem, IsMade, IsMadeWithin};
+ghost use Rattle.flit_workers.specs.Works.{Grows, IsRightItem, IsMade, IsCutWithin, IsMadeWithin};
 
 use crate::gates::Gate;
 use flit_model::{Call, Item, Reply};
@@ -35,9 +37,9 @@ fn call_within<S: Structure>(
         × (own_calls pass.new ≡ own_calls pass.old + 1) × (r.1 ≤ steps)
         × Grows (own_name pass.old) (own_calls pass.old)
         (Answered (entry_of (own_name pass.old) (own_calls pass.old + 1) call r.0) ∷ []) r.1
-        (view_of pass.old) (view_of pass.new)) }
-    ensures stopped { IfNone result (Grows (own_name pass.old) (own_calls pass.old) [] steps
-        (view_of pass.old) (view_of pass.new)) }
+        (view_of pass.old) (view_of pass.new) × (0 < r.1) × AreInOrder (view_of pass.new)) }
+    ensures stopped { IfNone result (IsCutWithin (meaning_of S.meaning running.now)
+        running.now.origin (Call_item call) steps pass.old pass.new) }
 {
     match running.answer_within(pass, call, steps) {
         Within::Done { reply, made } => Some((reply, made)),
@@ -57,7 +59,8 @@ pub(crate) fn item_within<S: Structure, G: Gate>(
     requires right { IsRightItem (meaning_of S.meaning running.now).layout item }
     requires count { own_calls pass.old < 4294967295 }
     ensures pass { BelongsTo S.meaning running.now pass.new }
-    ensures made { IsMadeWithin item steps pass.old pass.new result }
+    ensures made { IsMadeWithin (meaning_of S.meaning running.now) running.now.origin item steps
+        pass.old pass.new result }
 {
     match item {
         Item::Call(call) => {
@@ -96,7 +99,7 @@ fn call<S: Structure, R: Wait>(
     ensures done { IsFree pass.new × (own_calls pass.new ≡ own_calls pass.old + 1)
         × ((count : ℕ) × Grows (own_name pass.old) (own_calls pass.old)
         (Answered (entry_of (own_name pass.old) (own_calls pass.old + 1) call result) ∷ []) count
-        (view_of pass.old) (view_of pass.new)) }
+        (view_of pass.old) (view_of pass.new) × (0 < count)) × AreInOrder (view_of pass.new) }
 {
     running.answer(rt, pass, call)
 }
@@ -107,7 +110,7 @@ fn evict<S: Structure>(running: &Running<S>, pass: &mut Pass<S>, word: u32)
     ensures pass { BelongsTo S.meaning running.now pass.new }
     ensures done { IsFree pass.new × (own_calls pass.new ≡ own_calls pass.old)
         × Grows (own_name pass.old) (own_calls pass.old) (Evicted (own_name pass.old) word ∷ []) 2
-        (view_of pass.old) (view_of pass.new) }
+        (view_of pass.old) (view_of pass.new) × AreInOrder (view_of pass.new) }
 {
     if !running.evict(pass, word, 2) {
         unreachable!()

@@ -3,6 +3,8 @@
 
 mod ends;
 mod gates;
+mod gathered_laws;
+mod gathering;
 mod items;
 mod rooms;
 mod running;
@@ -10,4 +12,6 @@ mod worker;
 
 pub use ends::End;
 pub use gates::{Gate, NoGate};
+pub use gathered_laws::ended_gather;
+pub use gathering::gather;
 pub use running::run_workers;

@@ -27,8 +27,9 @@ fn work_within<S: Structure, G: Gate>(
     requires count { own_calls pass.old + length items.now ≤ 4294967295 }
     requires stopped { outcomes.old ≡ replicate (length (calls_in items.now)) Stopped }
     ensures pass { BelongsTo S.meaning running.now pass.new }
-    ensures worked { IsWorked items.now (Some stop) outcomes.new (own_name pass.old)
-        (own_calls pass.old) (view_of pass.old) (view_of pass.new) }
+    ensures worked { IsWorked (meaning_of S.meaning running.now) running.now.origin items.now
+        (Some stop) outcomes.new (own_name pass.old) (own_calls pass.old) (view_of pass.old)
+        pass.new }
 {
     let mut made = 0;
     let mut replied = 0;
@@ -63,8 +64,8 @@ fn work_all<S: Structure, G: Gate, R: Wait>(
     requires count { own_calls pass.old + length items.now ≤ 4294967295 }
     requires stopped { outcomes.old ≡ replicate (length (calls_in items.now)) Stopped }
     ensures pass { BelongsTo S.meaning running.now pass.new }
-    ensures worked { IsWorked items.now None outcomes.new (own_name pass.old) (own_calls pass.old)
-        (view_of pass.old) (view_of pass.new) }
+    ensures worked { IsWorked (meaning_of S.meaning running.now) running.now.origin items.now None
+        outcomes.new (own_name pass.old) (own_calls pass.old) (view_of pass.old) pass.new }
 {
     let mut replied = 0;
     for item in items {
@@ -90,8 +91,9 @@ pub(crate) fn work<S: Structure, G: Gate, R: Wait>(
     requires count { own_calls pass.old + length work.now.items.items ≤ 4294967295 }
     requires stopped { outcomes.old ≡ replicate (length (calls_in work.now.items.items)) Stopped }
     ensures pass { BelongsTo S.meaning running.now pass.new }
-    ensures worked { IsWorked work.now.items.items work.now.stop outcomes.new (own_name pass.old)
-        (own_calls pass.old) (view_of pass.old) (view_of pass.new) }
+    ensures worked { IsWorked (meaning_of S.meaning running.now) running.now.origin
+        work.now.items.items work.now.stop outcomes.new (own_name pass.old) (own_calls pass.old)
+        (view_of pass.old) pass.new }
 {
     match work.stop {
         None => work_all(rt, running, pass, work.items.as_slice(), outcomes, gate),

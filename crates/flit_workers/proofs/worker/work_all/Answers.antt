@@ -22,7 +22,8 @@ item_made-requires-clause-count g c =
 pub returns-clause-worked : goal.returns-clause-worked
 returns-clause-worked g c =
     let i = c.loop-item.invariant in
-    worked_here c.args.items.now c.loop-item.item-index c.loop-item.outcomes c.loop-item.replied i.2.0 None c.args.pass.now c.loop-item.pass i.2.1
+    worked_here (g.S.Structure.meaning c.args.running.now.origin.structure.value) c.args.running.now.origin
+    c.args.items.now c.loop-item.item-index c.loop-item.outcomes c.loop-item.replied i.2.0 None c.args.pass.now c.loop-item.pass i.1 i.2.1
     (drop_all c.loop-item.item-index c.args.items.now (omega arith))
 
 pub loop-item-preserved : goal.loop-item-preserved

@@ -1,4 +1,4 @@
-use Rattle.std.proofs.Common.{ℕ, IsSome}
+use Rattle.std.proofs.Common.{ℕ}
 use Rattle.flit_table.specs.Passes.{BelongsTo, IsFree}
 use Rattle.flit_workers.specs.Works.{HasMade}
 use Rattle.flit_workers.proofs.worker.work_all.Given as goal

@@ -1,4 +1,4 @@
-use Rattle.std.proofs.Common.{◌+◌, ◌≤◌, Some, sym, arith, subst}
+use Rattle.std.proofs.Common.{◌+◌, ◌-◌, ◌<◌, ◌≤◌, Some, sym, arith, subst}
 use Rattle.flit_workers.specs.Works.{HasMade}
 use Rattle.flit_workers.proofs.Growing.{made_with_reply, made_without_reply, made_none, made_few, worked_here, worked_stopped, held_name, ends_at_stop, ends_behind}
 use Rattle.flit_workers.proofs.worker.work_within.Goals as goal
@@ -24,22 +24,26 @@ returns-in_default-clause-worked g c =
     let i = c.loop-item.invariant in
     let cut = c.in_default.ensures.made in
     let name = held_name g.S.Structure.meaning c.args.running.now c.args.pass.now c.loop-item.pass c.requires.pass.belongs i.0 i.3.grows.same in
-    worked_stopped c.args.items.now c.loop-item.item-index c.loop-item.outcomes c.loop-item.replied c.loop-item.made _ (Some c.args.stop) c.args.pass.now
-    c.loop-item.pass c.item_within.new.pass name i.3 cut
+    let some : 0 < c.args.stop - c.loop-item.made = omega (arith, i.2, c.if-made-stop.false) in
+    worked_stopped (g.S.Structure.meaning c.args.running.now.origin.structure.value) c.args.running.now.origin
+    c.args.items.now c.loop-item.item-index _ c.loop-item.outcomes c.loop-item.replied c.loop-item.made _ (Some c.args.stop) c.args.pass.now
+    c.loop-item.pass c.item_within.new.pass c.loop-item-test.true some name i.3 cut
     (ends_at_stop c.args.stop _ _ (omega (arith, i.2)))
 
 pub returns-clause-worked : goal.returns-clause-worked
 returns-clause-worked g c =
     let i = c.loop-item.invariant in
-    worked_here c.args.items.now c.loop-item.item-index c.loop-item.outcomes c.loop-item.replied c.loop-item.made (Some c.args.stop) c.args.pass.now
-    c.loop-item.pass i.3
+    worked_here (g.S.Structure.meaning c.args.running.now.origin.structure.value) c.args.running.now.origin
+    c.args.items.now c.loop-item.item-index c.loop-item.outcomes c.loop-item.replied c.loop-item.made (Some c.args.stop) c.args.pass.now
+    c.loop-item.pass i.1 i.3
     (ends_behind c.args.stop c.loop-item.made c.loop-item.item-index c.args.items.now i.2 (omega arith))
 
 pub returns-then-made-stop-clause-worked : goal.returns-then-made-stop-clause-worked
 returns-then-made-stop-clause-worked g c =
     let i = c.loop-item.invariant in
-    worked_here c.args.items.now c.loop-item.item-index c.loop-item.outcomes c.loop-item.replied c.loop-item.made (Some c.args.stop) c.args.pass.now
-    c.loop-item.pass i.3
+    worked_here (g.S.Structure.meaning c.args.running.now.origin.structure.value) c.args.running.now.origin
+    c.args.items.now c.loop-item.item-index c.loop-item.outcomes c.loop-item.replied c.loop-item.made (Some c.args.stop) c.args.pass.now
+    c.loop-item.pass i.1 i.3
     (ends_at_stop c.args.stop c.loop-item.made _ c.if-made-stop.true)
 
 pub loop-item-preserved : goal.loop-item-preserved

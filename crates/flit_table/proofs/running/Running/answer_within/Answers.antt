@@ -1,4 +1,4 @@
-use Rattle.std.proofs.Common.{◌+◌, ℕ, refl, sym, ap, ◌∙◌, subst, zero-add}
+use Rattle.std.proofs.Common.{◌+◌, ℕ, refl, sym, ap, ◌∙◌, subst, zero-add, arith}
 use Rattle.flit_structure.specs.Meanings.{tally}
 use Rattle.flit_table.specs.Calls.{Ends, Runs}
 use Rattle.flit_table.specs.Moves.{entering}
@@ -32,6 +32,7 @@ returns-in_default-clause-answered g c =
     let k = c.in_default.ensures c.args.call c.args.pass.now.held 0 c.begin-start.ensures in
     let stopped = c.stop.ensures k.op k.is in (
       ap (λ h. is_stopped h.rest) stopped,
+      λ less. ap (λ h. waits_in h.rest) stopped ∙ k.at.2 (omega (arith, less)),
       (
         k.op,
         subst (λ (n : ℕ). Runs M c.args.self.now.origin c.args.call v (entering M (waits_in c.stop.new.held.rest) c.stop.new.held.seat.me.0) k.op n)
