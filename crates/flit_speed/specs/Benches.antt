@@ -1,5 +1,6 @@
 -- One worker's operation, alone on a machine: it is under way at a moment that holds, and has begun so many calls.
 use Rattle.std.specs.Prelude.{◌≡◌, ℕ, true, false, [], ◌∷◌, Option, Some, IsSome}
+use Rattle.flit_words.specs.declared.limits.TheConstants.{GREATEST_VERSION}
 use Rattle.flit_words.specs.declared.layouts.Layout.{Layout}
 use Rattle.flit_words.specs.declared.layouts.Kind.TheVariants.{List as List_kind}
 use Rattle.flit_model.specs.States.{State, state_from}
@@ -33,7 +34,7 @@ MayOpen meaning m = (o : Opening) × meaning.opens o × (m ≡ state_from meanin
 
 -- the layout that is measured: a list of one row without values, for one worker
 abbrev pub one_row : Layout
-one_row = record { kind = List_kind; buckets = 1; rows = 1; slots = 8; workers = 1; limit = 2147483647; values = false }
+one_row = record { kind = List_kind; buckets = 1; rows = 1; slots = 8; workers = 1; limit = GREATEST_VERSION; values = false }
 
 -- and the sample that is measured in it
 abbrev pub hashed : ℕ → Place

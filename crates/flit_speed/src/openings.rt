@@ -7,7 +7,7 @@ use flit_recover::fresh;
 use flit_rows::Pool;
 use flit_sample::Sample;
 use flit_sched::recovered_opens;
-use flit_words::{Kind, Layout, NoMemory};
+use flit_words::{GREATEST_VERSION, Kind, Layout, NoMemory};
 use std::alloc::Global;
 
 pub(crate) const PUT: Call = Call::Insert(5, 0);
@@ -24,7 +24,7 @@ pub(crate) fn one_row() -> Layout
         rows: 1,
         slots: 8,
         workers: 1,
-        limit: 2147483647,
+        limit: GREATEST_VERSION,
         values: false,
     }
 }

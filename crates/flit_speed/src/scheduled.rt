@@ -1,5 +1,6 @@
 ghost use Rattle.std.specs.Prelude.{◌≡◌, ◌≤◌, [], ◌∷◌, IfOk, length};
 ghost use Rattle.std.specs.List.{AllByRecursion};
+ghost use Rattle.flit_words.specs.declared.limits.TheConstants.{MOST_CALLS};
 ghost use Rattle.flit_sched.specs.Openings.{IsRightItem};
 ghost use Rattle.flit_sched.specs.Views.{HasWorker};
 ghost use Rattle.flit_speed.specs.Benches.{one_row as the_row};
@@ -9,16 +10,16 @@ use crate::openings::{HAS, PUT, on_fresh_words};
 use flit_model::{Item, Placed, Reply, Work};
 use flit_sched::{Sched, Turn};
 use flit_structure::Structure;
-use flit_words::NoMemory;
+use flit_words::{MOST_CALLS, NoMemory};
 use std::alloc::Global;
 
 /// A run takes no more items.
-const MOST_ITEMS: usize = 1048576;
+const MOST_ITEMS: usize = MOST_CALLS as usize;
 
 /// An insert, and contains of its key as often as is asked for, where a run takes as many.
 fn work(alloc: Global, times: u32) -> Result<Work, NoMemory>
     ensures right { IfOk result (λ w. AllByRecursion (IsRightItem the_row) w.items.items) }
-    ensures most { IfOk result (λ w. length w.items.items ≤ 1048576) }
+    ensures most { IfOk result (λ w. length w.items.items ≤ MOST_CALLS) }
 {
     let mut items = Vec::new(alloc);
     items.push(Item::Call(PUT))?;
