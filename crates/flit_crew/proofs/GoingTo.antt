@@ -37,7 +37,7 @@ use Rattle.flit_structure.proofs.Names.{others_new}
 use Rattle.flit_crew.proofs.Acting.{Split, Moves, AllStay, through, all_last, all_stay}
 use Rattle.flit_crew.proofs.Updating.{settled_longer}
 use Rattle.flit_crew.proofs.Accounting.{rows_steady, history_steady}
-use Rattle.flit_crew.proofs.Owning.{old_needs, IsOwn, own_row, own_away, lower}
+use Rattle.flit_crew.proofs.Owning.{old_needs, IsOwn, own_row, own_once, own_away, lower}
 use Rattle.flit_crew.proofs.Moving.{moved, still_moves, old_left, old_right}
 use Rattle.flit_crew.proofs.Arriving.{arrives, Arrived, resting}
 use Rattle.flit_crew.proofs.Going.{alone_same, r, heap, me_now, busy_now, since, leaves_same, ended_asks, all_shut, Went, Gone}
@@ -156,6 +156,7 @@ module _ {G Op : Type 0} (c : Crew G Op) (l : Layout) (p : Place) (free : List �
           pool = λ row k. (own_with row k).pool;
           fit = λ row k. pool_fit l free holds.pool row (own_with row k).pool;
           unlinked = λ row k. (own_with row k).unlinked;
+          once = own_once (λ v. own_in c.anatomy v.doing) free s.counter given a (busy name number with call now) b (lower free holds.pool.rising) w.rows.dealt;
           tight = subst (λ x. AreTight l (hand_in x).spare) (keeps.put op m w.after_it)
               (all_middle (IsTight c.anatomy l) a (busy name number with call now) b w.rows.tight);
         } in

@@ -21,6 +21,7 @@ use Rattle.flit_pv.specs.declared.queues.Noted.{Noted}
 use Rattle.flit_pv.specs.Exchanges.{HeldExchange, writing_in}
 use Rattle.flit_pv.specs.declared.exchanges.Exchanging.{Exchanging}
 use Rattle.flit_pv.specs.declared.exchanges.Exchanging.TheVariants.{Ready, Tries, TriesBare, WritesBack, Withdraws, Lowers, Ended}
+use Rattle.flit_rows.specs.Shares.{IsOnce}
 use Rattle.flit_runs.specs.Workings.{Dependency, Working, Idles, Loads, VLoads, Confirms, Exchanges, VExchanges, Stores, Fences, Completes, Evicts, goes_for, exchange_goes_for, writing_at}
 use Rattle.flit_runs.specs.Worlds.{Actor, writings, Owes, IsAway, IsNobodys}
 use Rattle.flit_runs.specs.Soundness.{IsSafe, IsSafelyRead, MayWriteBack, Needs, HasWon, AllKept, IsPersistentOrWon, IsSound, owed}
@@ -203,6 +204,15 @@ module _ {X : Type 0} (own : X → List ℕ) where
 
       none_right : (s u a b g t : ℕ) → s ≡ u + (a + b) → 1 ≤ u → s + g ≡ t → t ≤ 1 → b ≡ 0
       none_right s u a b g t e i h o = omega (arith, e, i, h, o)
+
+  -- each of them is there once
+  pub own_once : (free : List ℕ) (counter : ℕ) (given : List ℕ) (a : List X) (u : X) (b : List X) → IsRisingFrom 0 free →
+      IsDealt own free counter given (a ++ u ∷ b) → IsOnce (own u)
+  own_once free counter given a u b rising d row = most (own_times own row (a ++ u ∷ b)) (times own row (own u)) (own_times own row a) (own_times own row b)
+      (times own row given) (times own row (take counter free)) (times_split own row a u b) (d.rows row) (once own free counter row rising)
+    where
+      most : (s u a b g t : ℕ) → s ≡ u + (a + b) → s + g ≡ t → t ≤ 1 → u ≤ 1
+      most s u a b g t e h o = omega (arith, e, h, o)
 
 module _ {G Op : Type 0} (c : Crew G Op) (l : Layout) (p : Place) (free : List ℕ) (h : Heap G) where
   -- a word of a row that isn't linked and that the others don't have, is out of their reach

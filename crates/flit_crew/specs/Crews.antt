@@ -17,7 +17,7 @@ use Rattle.flit_pv.specs.declared.exchanges.Exchanging.TheVariants.{Ready, Tries
 use Rattle.flit_pv.specs.declared.exchanges.Exchanged.{Exchanged}
 use Rattle.flit_pv.specs.declared.exchanges.Exchanged.TheVariants.{Won as Exchange_won, Lost, Worn as Exchange_worn}
 use Rattle.flit_pv.specs.Stores.{HeldStore}
-use Rattle.flit_rows.specs.Shares.{rows_in}
+use Rattle.flit_rows.specs.Shares.{rows_in, IsOnce}
 use Rattle.flit_rows.specs.declared.take_row.Took.TheVariants.{None as NoRow}
 use Rattle.flit_rows.specs.Taking.{IsRight, IsDecided, take_started}
 use Rattle.flit_runs.specs.Workings.{Dependency, Working, Idles, Loads, VLoads, Confirms, Exchanges, VExchanges, Stores, Fences, Completes, Evicts, Task, ToLoad, ToVLoad, ToConfirm, ToExchange, ToVExchange, ToStore, ToFence, ToComplete, ToEvict, asks, started, leaves, confirms, takes_over, words_from, goes_for}
@@ -282,12 +282,13 @@ module _ {G Op : Type 0} (c : Crew G Op) (l : Layout) (p : Place) (free : List �
         Goes h (left me (started task hand)) (leaves (started task hand)) op → Goes h me hand op
     changes : (me : Who) (hand now : Hand) (op : Op) → IsAlike hand now → Goes h me now op → Goes h me hand op
 
-  -- the own rows of an operation are rows of the pool, and of the layout, that aren't linked; its machine's hand has places for what an insert
-  -- needs, and beyond these no row
+  -- the own rows of an operation are rows of the pool, and of the layout, that aren't linked, each of them once; its machine's hand has places
+  -- for what an insert needs, and beyond these no row
   pub record OwnsRows (h : Heap G) (op : Op) (m : Machine) : Type 0 where
     pub pool : (row : ℕ) → Contains (own anatomy op) row → Contains free row
     pub fit : (row : ℕ) → Contains (own anatomy op) row → (1 ≤ row) × (row ≤ last_row_of l)
     pub unlinked : (row : ℕ) → Contains (own anatomy op) row → Contains h.given row → ⊥
+    pub once : IsOnce (own anatomy op)
     pub tight : AreTight l (hand_in m).spare
 
   -- between two machines of a call no row changes its owner, and no update its place

@@ -111,7 +111,7 @@ ones l free pool = rising_each (λ r. r) 1 free (subst (IsRisingFrom 1) (sym (ma
 -- ---- an own event
 
 module _ {G Op : Type 0} (c : Crew G Op) (l : Layout) (p : Place) (free : List ℕ) (limits : Limits Op) (keeps : Keeps c l p free)
-    (counts : KeepsCounts c.anatomy p free) (bounds : KeepsLimits c l p free limits) (M : Moment Op)
+    (counts : KeepsCounts c p free) (bounds : KeepsLimits c l p free limits) (M : Moment Op)
     (a : List (Worker Op)) (name number : ℕ) (op : Op) (call : Call) (begun : Option ℕ) (b : List (Worker Op)) (e : Event)
     (q : machine_asks p (c.anatomy.machine op) ≡ Some e)
     (holds : Holds c l p free (with_workers M (a ++ busy name number op call begun ∷ b))) where
@@ -251,7 +251,7 @@ module _ {G Op : Type 0} (c : Crew G Op) (l : Layout) (p : Place) (free : List �
           (try_events n (tally_of A op) (tally_of A (A.with_machine op m))) fewer was.0 (kept.runs M.state e _ _ _ _ op own going))
 
 module _ {G Op : Type 0} (c : Crew G Op) (l : Layout) (p : Place) (free : List ℕ) (limits : Limits Op) (keeps : Keeps c l p free)
-    (counts : KeepsCounts c.anatomy p free) (bounds : KeepsLimits c l p free limits) (M : Moment Op)
+    (counts : KeepsCounts c p free) (bounds : KeepsLimits c l p free limits) (M : Moment Op)
     (a : List (Worker Op)) (name number : ℕ) (op : Op) (call : Call) (begun : Option ℕ) (b : List (Worker Op)) (word kept : ℕ)
     (q : machine_asks p (c.anatomy.machine op) ≡ Some (Persist word kept))
     (holds : Holds c l p free (with_workers M (a ++ busy name number op call begun ∷ b))) where

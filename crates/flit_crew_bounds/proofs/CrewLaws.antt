@@ -13,7 +13,7 @@ use Rattle.flit_crew_bounds.specs.BoundedMeanings.{bounds_by, bounded_meaning}
 use Rattle.flit_crew_bounds.proofs.Limited.{bounds_kept, besides_kept, wraps}
 
 module _ {G Op : Type 0} (c : Crew G Op) (l : Layout) (p : Place) (free : List ℕ) (limits : Limits Op) (keeps : Keeps c l p free)
-    (counts : KeepsCounts c.anatomy p free) (bounds : KeepsLimits c l p free limits) where
+    (counts : KeepsCounts c p free) (bounds : KeepsLimits c l p free limits) where
   pub bounded_lawful : ((o : Opening) → limits.opens o → OpensSo c l p free o) → Lawful (bounded_meaning c l p free limits)
   bounded_lawful opens = crew_lawful c l p free (bounds_by c l p free limits) keeps (record {
     opens = opens;

@@ -5,6 +5,8 @@ pub mod Tallying
 pub mod Sparing
 pub mod Progressing
 pub mod Searching
+pub mod Turning
+pub mod ExchangeEnds
 pub mod OwnEvents
 pub mod Bounded
 pub mod Others

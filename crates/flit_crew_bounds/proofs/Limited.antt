@@ -56,7 +56,7 @@ begins_bounded k start now one same = sum start.tries now.tries (excuses k start
     sum s t x y h e = omega (arith, h, e)
 
 module _ {G Op : Type 0} (c : Crew G Op) (l : Layout) (p : Place) (free : List ℕ) (limits : Limits Op) (keeps : Keeps c l p free)
-    (counts : KeepsCounts c.anatomy p free) (bounds : KeepsLimits c l p free limits) where
+    (counts : KeepsCounts c p free) (bounds : KeepsLimits c l p free limits) where
   abbrev A : Anatomy Op
   A = c.anatomy
 

@@ -238,7 +238,7 @@ working_ended p (Fences m) told e q none = refl
 working_ended p (Completes m) told e q none = refl
 working_ended p (Evicts m) told e q none = evict_ended (evict_taken m told).at (evict_taken m told) none
 
-and_first : (a b : Bool) → (a && b) ≡ true → a ≡ true
+pub and_first : (a b : Bool) → (a && b) ≡ true → a ≡ true
 and_first true b q = refl
 and_first false b q = q
 

@@ -1,8 +1,8 @@
 -- What is known of an operation's own event, and of what happens to others.
-use Rattle.std.proofs.Common.{◌≡◌, ℕ, suc, ◌+◌, ◌*◌, ◌≤◌, ◌<◌, ◌==◌, cond, min, List, [], ◌∷◌, ◌++◌, length, take, slice_get, Option, Some, refl, sym, ◌∙◌, ap, subst, arith}
+use Rattle.std.proofs.Common.{◌≡◌, ℕ, suc, ◌+◌, ◌*◌, ◌≤◌, ◌<◌, ◌==◌, true, false, cond, min, List, [], ◌∷◌, ◌++◌, length, take, slice_get, Option, Some, refl, sym, ◌∙◌, ap, subst, arith}
 use Rattle.std.proofs.Math.Seq.{take-suc}
 use Rattle.std.proofs.lemmas.Bool.{eq-eqb}
-use Rattle.std.proofs.lemmas.Option.{slice_get_within, get_or_from_slice_get}
+use Rattle.std.proofs.lemmas.Option.{slice_get_within, get_or_from_slice_get, none-some}
 use Rattle.std.specs.Prelude.{Contains}
 use Rattle.flit_words.specs.declared.layouts.Layout.{Layout}
 use Rattle.flit_model.specs.Effects.{answer}
@@ -11,13 +11,21 @@ use Rattle.flit_model.specs.declared.events.Event.{Event}
 use Rattle.flit_model.specs.declared.calls.Call.{Call}
 use Rattle.flit_model.proofs.Counting.{count_by-cons, count_by-append}
 use Rattle.flit_place.specs.Tags.{Place, IsSlot}
+use Rattle.flit_place.proofs.Splits.{all_middle}
+use Rattle.flit_pv.specs.Exchanges.{HeldExchange, exchange_asks, exchange_asked}
+use Rattle.flit_pv.specs.declared.exchanges.Exchanging.{Exchanging}
+use Rattle.flit_pv.specs.declared.exchanges.Exchanging.TheVariants.{Ready, Tries, TriesBare, WritesBack, Withdraws, Lowers, Ended}
 use Rattle.flit_runs.specs.Workings.{Exchanges}
+use Rattle.flit_runs.specs.Worlds.{world_of}
+use Rattle.flit_runs.specs.Soundness.{IsNext, ExchangeKnows}
+use Rattle.flit_runs.specs.Rules.{KeepsRule, MustBeDurable, IsDurable, is_exchange}
+use Rattle.flit_runs.proofs.RuleLaws.{rule}
 use Rattle.flit_structure.specs.declared.workers.Worker.{Worker}
 use Rattle.flit_structure.specs.Moments.{Moment, with_workers, busy, made}
 use Rattle.flit_structure.specs.Meanings.{first_at}
 use Rattle.flit_structure.specs.Lawful.{rows_needed}
 use Rattle.flit_structure.proofs.Names.{all_at}
-use Rattle.flit_crew.specs.Machines.{machine_asks}
+use Rattle.flit_crew.specs.Machines.{Works, ToWin, machine_asks, exchange_part}
 use Rattle.flit_crew.specs.Heaps.{Heap, heap_of}
 use Rattle.flit_crew.specs.Rows.{times, own_times, own_many, IsDealt}
 use Rattle.flit_crew.specs.Accounts.{inserts_in, IsTight}
@@ -29,7 +37,9 @@ use Rattle.flit_crew.proofs.Rowing.{contained, once}
 use Rattle.flit_crew.proofs.Owning.{IsOwn, own_row, lower}
 use Rattle.flit_crew.proofs.Acting.{Split}
 use Rattle.flit_crew.proofs.Moving.{mine}
-use Rattle.flit_crew.proofs.Going.{knows_now, since, busy_now, facts_now}
+use Rattle.flit_crew.proofs.Going.{knows_now, since, busy_now, facts_now, sound_now}
+use Rattle.flit_crew.proofs.Reading.{at_it}
+use Rattle.flit_crew.proofs.Winning.{needed_durable}
 use Rattle.flit_crew.proofs.Trying.{same_le}
 use Rattle.flit_crew.proofs.CallSteps.{known as machine_knows}
 use Rattle.flit_crew_bounds.specs.Bounding.{OwnEvent}
@@ -102,6 +112,28 @@ module _ {G Op : Type 0} (c : Crew G Op) (l : Layout) (p : Place) (free : List �
   own_is : (row : ℕ) → Contains (own c.anatomy op) row → IsOwn (λ v. own_in c.anatomy v.doing) free holds.given a b row
   own_is row has = own_row (λ v. own_in c.anatomy v.doing) free M.state.counter holds.given a u b row (lower free holds.pool.rising) holds.rows.dealt has
 
+  durable_so : (m : HeldExchange) → c.anatomy.machine op ≡ Works (Exchanges m) → is_exchange (Some e) ≡ true → IsDurable M.state was.actor.needs
+  durable_so m same exchanges =
+      let rules : KeepsRule p M.state was.actor = all_middle (KeepsRule p M.state) was.before was.actor was.behind
+      (rule p (λ x. false) (world_of M.state was.before was.actor was.behind)
+      (sound_now c l p free keeps M a name number op call begun b holds K (same_le K))) in
+      let at : was.actor.at ≡ Exchanges m = at_it c l p free keeps M a name number op call begun b holds K (same_le K) (Exchanges m) same in
+      let asks : exchange_asked p m ≡ Some e = ap (machine_asks p) (sym same) ∙ q in
+      rules (subst (MustBeDurable p) (sym at) (ap is_exchange asks ∙ exchanges))
+
+  next_so : (m : HeldExchange) → c.anatomy.machine op ≡ Works (Exchanges m) → exchange_part m.at ≡ ToWin → IsNext m
+  next_so m same part = by_stage m.at part (ap (machine_asks p) (sym same) ∙ q)
+      (machine_knows c l p free keeps M a name number op call begun b holds (Exchanges m) same)
+    where
+      by_stage : (x : Exchanging) → exchange_part x ≡ ToWin → exchange_asks p x m ≡ Some e → ExchangeKnows p (λ y. false) M.state x m → IsNext m
+      by_stage Ready to_win asks f = f.1
+      by_stage (Tries slot) to_win asks f = f.1.new
+      by_stage TriesBare to_win asks f = f.1.new
+      by_stage WritesBack to_win asks f = absurd (cc)
+      by_stage Withdraws to_win asks f = absurd (cc)
+      by_stage (Lowers slot found) to_win asks f = absurd (cc)
+      by_stage (Ended how) to_win asks f = absurd (none-some e asks)
+
   pub own_event : OwnEvent c l p free M.state e before behind me you op
   own_event =
       let known : IsBusy c l p free before was.actor name number op call begun =
@@ -118,6 +150,8 @@ module _ {G Op : Type 0} (c : Crew G Op) (l : Layout) (p : Place) (free : List �
             (holds.sound.suits.slots word (subst (λ n. word < n) (sym holds.words) lt));
         unqueued = λ x how is_then ended. ends_empty p free M.state (c.anatomy.machine op) e (answer M.state e) x how
             (λ y same. machine_knows c l p free keeps M a name number op call begun b holds (Exchanges y) same) q is_then ended;
+        durable = λ m same exchanges w v needed. needed_durable M.state was.actor.needs w v (durable_so m same exchanges) needed;
+        next = λ m same part. next_so m same part;
         next_row = λ row is_next has. undrawn (λ v. own_in c.anatomy v.doing) free M.state.counter holds.given (a ++ u ∷ b) row (lower free holds.pool.rising)
             holds.rows.dealt is_next has;
         words = refl;

@@ -16,6 +16,7 @@ use Rattle.flit_pv.specs.declared.exchanges.Exchanging.{Exchanging}
 use Rattle.flit_pv.specs.declared.exchanges.Exchanging.TheVariants.{Ready, Tries, TriesBare, WritesBack, Withdraws, Lowers, Ended}
 use Rattle.flit_pv.specs.declared.exchanges.Exchanged.TheVariants.{Won, Lost, Worn}
 use Rattle.flit_pv.proofs.Asking.{has_won, withdraws, wins_at_the_end}
+use Rattle.flit_runs.specs.Worlds.{Actor}
 use Rattle.flit_runs.specs.Workings as run
 use Rattle.flit_runs.specs.Workings.{Working, Idles, Loads, VLoads, Confirms, Exchanges, VExchanges, Stores, Fences, Completes, Evicts}
 use Rattle.flit_structure.specs.declared.workers.Worker.{Worker}
@@ -27,15 +28,12 @@ use Rattle.flit_crew.specs.Machines.{Machine, Works, Takes, Made, machine_asks, 
 use Rattle.flit_crew.specs.Heaps.{Heap}
 use Rattle.flit_crew.specs.Anatomies.{Anatomy, deed_by, gone_by, op_taken}
 use Rattle.flit_crew.specs.Accounts.{HasUpdate}
-use Rattle.flit_crew.specs.Crews.{Crew, Holds, IsBusy}
+use Rattle.flit_crew.specs.Crews.{Crew, Holds, IsBusy, who_of}
 use Rattle.flit_crew.specs.Obligations.{Keeps}
 use Rattle.flit_crew.proofs.Moving.{h, mine}
+use Rattle.flit_crew_bounds.proofs.MachineFalls.{and_first}
 use Rattle.flit_crew_bounds.specs.Counting.{HasLinkedBy, KeepsCounts}
 use Rattle.flit_crew_bounds.proofs.MachineHands.{machine_spare}
-
-and_first : (a b : Bool) → (a && b) ≡ true → a ≡ true
-and_first true b q = refl
-and_first false b q = q
 
 -- ---- an exchange that has ended and whose rows are linked has won, and was to withdraw its tag
 
@@ -108,7 +106,7 @@ still_made q s e effect n x stands =
     Contains-append_left now.settled (waiting_updates now) x
     (subst (λ xs. Contains xs x) (sym g.1) (Contains-append_left q.settled g.0 x (stands_in n q.settled x stands)))
 
-module _ {G Op : Type 0} (c : Crew G Op) (l : Layout) (p : Place) (free : List ℕ) (keeps : Keeps c l p free) (counts : KeepsCounts c.anatomy p free)
+module _ {G Op : Type 0} (c : Crew G Op) (l : Layout) (p : Place) (free : List ℕ) (keeps : Keeps c l p free) (counts : KeepsCounts c p free)
     (M : Moment Op) (a : List (Worker Op)) (name number : ℕ) (op : Op) (call : Call) (begun : Option ℕ) (b : List (Worker Op))
     (holds : Holds c l p free (with_workers M (a ++ busy name number op call begun ∷ b))) where
   abbrev A : Anatomy Op
@@ -117,7 +115,10 @@ module _ {G Op : Type 0} (c : Crew G Op) (l : Layout) (p : Place) (free : List �
   abbrev heap : Heap G
   heap = h c l p free keeps M a (busy name number op call begun) b holds
 
-  known : IsBusy c l p free heap (mine c l p free keeps M a (busy name number op call begun) b holds).actor name number op call begun
+  abbrev actor : Actor
+  actor = (mine c l p free keeps M a (busy name number op call begun) b holds).actor
+
+  known : IsBusy c l p free heap actor name number op call begun
   known = (mine c l p free keeps M a (busy name number op call begun) b holds).mine.doing
 
   -- an operation that effects and whose machine has made its update has made it
@@ -149,5 +150,6 @@ module _ {G Op : Type 0} (c : Crew G Op) (l : Layout) (p : Place) (free : List �
       )
 
       by_end : (t : Bool) → has_ended p m ≡ t → Goal (gone_by A t op m)
-      by_end true ended = over ended (counts.spare op m (record { told = answer M.state e; is = refl; ended = ended }))
+      by_end true ended = over ended (counts.spare heap (who_of name number call begun actor) op m holds.kept known.knows known.same_call
+          (record { told = answer M.state e; is = refl; ended = ended }))
       by_end false going = inl (λ row some has. subst (λ x. Contains (hand_in x).spare row) (sym (keeps.put op m (answer M.state e, refl))) (on row some has))

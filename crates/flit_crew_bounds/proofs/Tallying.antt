@@ -99,7 +99,7 @@ first_counts = record {
 
 -- ---- operations
 
-module _ {G Op : Type 0} (c : Crew G Op) (l : Layout) (p : Place) (free : List ℕ) (keeps : Keeps c l p free) (counts : KeepsCounts c.anatomy p free) where
+module _ {G Op : Type 0} (c : Crew G Op) (l : Layout) (p : Place) (free : List ℕ) (keeps : Keeps c l p free) (counts : KeepsCounts c p free) where
   abbrev A : Anatomy Op
   A = c.anatomy
 

@@ -4,7 +4,7 @@ use Rattle.std.specs.Prelude.{◌≡◌, ◌⊎◌, ℕ, ◌+◌, ◌*◌, ◌<�
 use Rattle.flit_words.specs.declared.layouts.Layout.{Layout}
 use Rattle.flit_words.specs.declared.layouts.Kind.TheVariants.{Tree}
 use Rattle.flit_words.specs.Layouts.{words_of}
-use Rattle.flit_words.specs.Words.{bare_of}
+use Rattle.flit_words.specs.Words.{bare_of, version_of}
 use Rattle.flit_model.specs.States.{State}
 use Rattle.flit_model.specs.Effects.{after, answer}
 use Rattle.flit_model.specs.Settling.{Progress}
@@ -19,10 +19,12 @@ use Rattle.flit_pv.specs.declared.exchanges.Exchanging.TheVariants.{Ended}
 use Rattle.flit_pv.specs.declared.exchanges.Exchanged.{Exchanged}
 use Rattle.flit_pv.specs.declared.exchanges.Exchanged.TheVariants.{Won, Lost, Worn}
 use Rattle.flit_runs.specs.Workings.{Exchanges}
+use Rattle.flit_runs.specs.Rules.{is_exchange}
+use Rattle.flit_runs.specs.Soundness.{Needs, IsNext}
 use Rattle.flit_structure.specs.Moments.{Opening, Moment, made}
 use Rattle.flit_structure.specs.Meanings.{IsServed}
 use Rattle.flit_structure.specs.Lawful.{AreSearchesBounded, IsBelowTop, rows_needed}
-use Rattle.flit_crew.specs.Machines.{Machine, Works, machine_asks, machine_takes, hand_in, has_ended}
+use Rattle.flit_crew.specs.Machines.{Machine, Works, ToWin, machine_asks, machine_takes, hand_in, has_ended, exchange_part}
 use Rattle.flit_crew.specs.Heaps.{Heap, at_word, at_shadow, IsAhead}
 use Rattle.flit_crew.specs.Accounts.{inserts_in, AreTight}
 use Rattle.flit_crew.specs.Anatomies.{own, op_taken}
@@ -96,6 +98,11 @@ module _ {G Op : Type 0} (c : Crew G Op) (l : Layout) (p : Place) (free : List �
     pub slots : (word : ℕ) → word < words_of l → IsSlot p.counted l.slots (p.slot word)
     pub unqueued : (exchange : HeldExchange) (how : Exchanged) → machine_takes p free (c.anatomy.machine op) (answer s e) ≡ Works (Exchanges exchange) →
         exchange.at ≡ Ended how → exchange.hand.queue ≡ []
+    -- where a PExchange makes an Exchange, all that is depended on is persistent
+    pub durable : (exchange : HeldExchange) → c.anatomy.machine op ≡ Works (Exchanges exchange) → is_exchange (Some e) ≡ true → (w v : ℕ) →
+        Needs me.needs w v → v ≤ version_of (at_shadow h w)
+    -- and until it has won, its new word is bare, with the next version
+    pub next : (exchange : HeldExchange) → c.anatomy.machine op ≡ Works (Exchanges exchange) → exchange_part exchange.at ≡ ToWin → IsNext exchange
     pub words : h.words ≡ map bare_of s.words
     pub shadows : h.shadows ≡ s.shadows
     pub kept : c.kept h

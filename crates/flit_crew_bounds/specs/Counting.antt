@@ -10,7 +10,9 @@ use Rattle.flit_pv.specs.Tallies.{IsTally, Counts}
 use Rattle.flit_structure.specs.declared.workers.Worker.{Worker}
 use Rattle.flit_structure.specs.Lawful.{AreSpareIn, is_insert}
 use Rattle.flit_crew.specs.Machines.{Machine, machine_takes, hand_in, has_ended, deed_of, has_linked}
+use Rattle.flit_crew.specs.Heaps.{Heap}
 use Rattle.flit_crew.specs.Anatomies.{Anatomy, hand_at}
+use Rattle.flit_crew.specs.Crews.{Crew, Who}
 
 -- a tally as a call goes on from its ended machine: loads that end without an event may be counted, a removal that was
 -- helped may be, and a search that begins; no write-back and no lost exchange
@@ -49,11 +51,13 @@ module _ {Op : Type 0} (A : Anatomy Op) where
     pub is : m ≡ machine_takes p free (A.machine op) told
     pub ended : has_ended p m ≡ true
 
-  -- what a structure shows of the hands of its operations
-  pub record KeepsCounts (p : Place) (free : List ℕ) : Type 0 where
-    -- a call begins with its hand's counts, but for the search
-    pub begun : (hand : Hand) (call : Call) → IsTally hand.tally → StartsWith hand.tally (tally_of (A.begun hand call))
-    -- it goes on with those of its ended machine, but for loads, a help and a search
-    pub resumed : (op : Op) (m : Machine) → Ends p free op m → IsTally (hand_in m).tally → GoesOnWith (hand_in m).tally (tally_of (A.resumed op m))
-    -- and with its spare rows, unless they were linked
-    pub spare : (op : Op) (m : Machine) → Ends p free op m → AreSpareIn (hand_in (A.machine (A.resumed op m))) (hand_in m) ⊎ HasLinkedBy op m
+-- what a structure shows of the hands of its operations
+pub record KeepsCounts {G Op : Type 0} (c : Crew G Op) (p : Place) (free : List ℕ) : Type 0 where
+  -- a call begins with its hand's counts, but for the search
+  pub begun : (hand : Hand) (call : Call) → IsTally hand.tally → StartsWith hand.tally (tally_of c.anatomy (c.anatomy.begun hand call))
+  -- it goes on with those of its ended machine, but for loads, a help and a search
+  pub resumed : (op : Op) (m : Machine) → Ends c.anatomy p free op m → IsTally (hand_in m).tally →
+      GoesOnWith (hand_in m).tally (tally_of c.anatomy (c.anatomy.resumed op m))
+  -- and, by what it knows of a kept heap, with its spare rows, unless they were linked
+  pub spare : (h : Heap G) (me : Who) (op : Op) (m : Machine) → c.kept h → c.knows h me op → c.anatomy.call op ≡ me.call → Ends c.anatomy p free op m →
+      AreSpareIn (hand_in (c.anatomy.machine (c.anatomy.resumed op m))) (hand_in m) ⊎ HasLinkedBy c.anatomy op m

@@ -47,6 +47,7 @@ use Rattle.flit_crew.proofs.Stepping.{load_first, load_behind}
 use Rattle.flit_crew_bounds.specs.Left.{machine_left, load_left, exchange_left, take_left}
 use Rattle.flit_crew_bounds.specs.Bounding.{OwnEvent}
 use Rattle.flit_crew_bounds.proofs.Searching.{at_loss}
+use Rattle.flit_crew_bounds.proofs.Turning.{IsApart, store_elsewhere}
 use Rattle.flit_one_key.specs.Operations.{At, Head, Key, Value, Row, Words, RowValue, Link, Ends, Rests, HeldOp}
 use Rattle.flit_one_key.specs.Steps.{IsSmall, key_word, value_word, links_none, with_search, hand_linked, linked_so, link_by, head_by, key_next, value_next, hand_at}
 use Rattle.flit_one_key_crew.specs.OneKeyAnatomy.{machine_at, with_machine_at, resumed, one_key_anatomy}
@@ -75,26 +76,6 @@ load_words s e m Load_reads q = subst (λ y. (after s y).words ≡ s.words) (sam
 load_words s e m (Asks raw slot) q = subst (λ y. (after s y).words ≡ s.words) (same_Some (ReadTag slot) e q) refl
 load_words s e m (Load_makes_room raw first) q = subst (λ y. (after s y).words ≡ s.words) (same_Some (persist_of first) e q) refl
 load_words s e m (Has raw) q = absurd (none-some e q)
-
--- a word that isn't the head is stored
-abbrev IsFar : Storing → Type 0
-IsFar (Store_reads how) = Unit {0}
-IsFar (Writes next) = 0 ≢ next.word
-IsFar (Store_makes_room next first) = Unit {0}
-IsFar (Store_ended how) = Unit {0}
-
-write_keeps : (s : State) (queue : List Noted) (next : Noted) (b : Bool) (e : Event) →
-    (if b then first_persist queue else Some (Store next.word next.kept)) ≡ Some e → 0 ≢ next.word → word_at (after s e) 0 ≡ word_at s 0
-write_keeps s [] next true e q far = absurd (none-some e q)
-write_keeps s (n ∷ ns) next true e q far = subst (λ x. word_at (after s x) 0 ≡ word_at s 0) (same_Some (persist_of n) e q) refl
-write_keeps s queue next false e q far = subst (λ x. word_at (after s x) 0 ≡ word_at s 0) (same_Some (Store next.word next.kept) e q)
-    (get_or-set_other s.words next.word 0 next.kept 0 far)
-
-store_keeps : (s : State) (at : Storing) (m : HeldStore) (e : Event) → store_asks at m ≡ Some e → IsFar at → word_at (after s e) 0 ≡ word_at s 0
-store_keeps s (Store_reads how) m e q far = subst (λ x. word_at (after s x) 0 ≡ word_at s 0) (same_Some (Load m.drafts.word) e q) refl
-store_keeps s (Writes next) m e q far = write_keeps s m.hand.queue next (is_full m.hand.queue) e q far
-store_keeps s (Store_makes_room next first) m e q far = subst (λ x. word_at (after s x) 0 ≡ word_at s 0) (same_Some (persist_of first) e q) refl
-store_keeps s (Store_ended how) m e q far = absurd (none-some e q)
 
 pair_far : (first n : ℕ) (values : List ℕ) (next : Noted) (ready : List Noted) → 1 ≤ first → ArePairs (first + n) values (next ∷ ready) → 0 ≢ next.word
 pair_far first n [] next ready some pairs = absurd pairs
@@ -341,18 +322,18 @@ module _ (l : Layout) (p : Place) (free : List ℕ) (small : IsSmall l) (s : Sta
 
   -- ---- words are stored
 
-  stored_far : (first : ℕ) (values : List ℕ) (m : HeldStore) (x : Storing) → 1 ≤ first → FillsAt l h (record { first = first; values = values }) x m → IsFar x
+  stored_far : (first : ℕ) (values : List ℕ) (m : HeldStore) (x : Storing) → 1 ≤ first → FillsAt l h (record { first = first; values = values }) x m → IsApart 0 x
   stored_far first values m (Store_reads how) some k = tt
   stored_far first values m (Writes next) some k = pair_far first (length k.done) k.rest next m.drafts.ready some k.to_store
   stored_far first values m (Store_makes_room next first') some k = tt
   stored_far first values m (Store_ended how) some k = tt
 
   words_keep : (head : ℕ) (m : HeldStore) → Own (Words head m) → store_asked m ≡ Some e → word_at (after s e) 0 ≡ word_at s 0
-  words_keep head m own q = store_keeps s m.at m e q (stored_far (key_word l) (key_of op.call ∷ 0 ∷ []) m m.at
+  words_keep head m own q = store_elsewhere s 0 m.at m e q (stored_far (key_word l) (key_of op.call ∷ 0 ∷ []) m m.at
       (subst (λ n. 1 ≤ n) (sym (key_at l small)) (omega arith)) own.facts.filled)
 
   value_keeps : (head : ℕ) (m : HeldStore) → Own (RowValue head m) → store_asked m ≡ Some e → word_at (after s e) 0 ≡ word_at s 0
-  value_keeps head m own q = store_keeps s m.at m e q (stored_far (value_word l) (value_put op.call ∷ []) m m.at
+  value_keeps head m own q = store_elsewhere s 0 m.at m e q (stored_far (value_word l) (value_put op.call ∷ []) m m.at
       (subst (λ n. 1 ≤ n) (sym (value_at l small)) (omega arith)) own.facts.filled)
 
   words_end : (head : ℕ) (m : HeldStore) → Own (Words head m) → store_asked m ≡ Some e → IsQuiet (Words head m)

@@ -26,6 +26,7 @@ use Rattle.flit_crew_bounds.specs.Counting.{GoesOnWith, tally_of, HasLinkedBy, K
 use Rattle.flit_one_key.specs.Operations.{At, Head, Key, Value, Row, Words, RowValue, Link, Ends, Rests, HeldOp}
 use Rattle.flit_one_key.specs.Steps.{with_search, hand_linked, link_by, hand_at}
 use Rattle.flit_one_key_crew.specs.OneKeyAnatomy.{machine_at, resumed, one_key_anatomy}
+use Rattle.flit_one_key_crew.specs.OneKeyCrew.{one_key_crew}
 use Rattle.flit_one_key_limits.proofs.Carrying.{Tallied, link_tallied, link_spare, value_stored, words_stored, row_taken_so, value_loaded, key_loaded, head_loaded}
 
 -- ---- tallies
@@ -183,11 +184,11 @@ module _ (l : Layout) (p : Place) (free : List ℕ) (op : HeldOp) (told : ℕ) w
       ⊎ HasLinkedBy A op (m_at op.at)
   spares_on ended = spares_at op.at ended
 
-pub one_key_counts : (l : Layout) (p : Place) (free : List ℕ) → KeepsCounts (one_key_anatomy l free) p free
+pub one_key_counts : (l : Layout) (p : Place) (free : List ℕ) → KeepsCounts (one_key_crew l free) p free
 one_key_counts l p free = record {
   begun = λ hand call t. record { same = refl; tries = inr refl };
   resumed = λ op m e t. resumed_by op m e.told e.is e.ended t;
-  spare = λ op m e. spare_by op m e.told e.is e.ended;
+  spare = λ h me op m kept knows same e. spare_by op m e.told e.is e.ended;
 }
   where
     resumed_by : (op : HeldOp) (m : Machine) (told : ℕ) → m ≡ machine_takes p free (machine_at op.at) told → has_ended p m ≡ true → IsTally (hand_in m).tally →

@@ -12,7 +12,6 @@ use Rattle.flit_crew_bounds.specs.Bounding.{Limits, KeepsLimits}
 use Rattle.flit_one_key.specs.Operations.{At, Head, Key, Value, Row, Words, RowValue, Link, Ends, Rests, HeldOp}
 use Rattle.flit_one_key.specs.Steps.{IsSmall}
 use Rattle.flit_one_key.specs.OneKey.{Opens}
-use Rattle.flit_one_key_crew.specs.OneKeyAnatomy.{one_key_anatomy}
 use Rattle.flit_one_key_crew.specs.OneKeyCrew.{one_key_crew}
 
 -- one try has at most so many events, that of an insert with a value
@@ -75,5 +74,5 @@ one_key_limits l p free = record {
 
 -- over each layout of one row, with each placement and each list of free rows, its counts and its bounds are kept
 pub record OneKeyIsBounded : Type 0 where
-  pub counts : (l : Layout) (p : Place) (free : List ℕ) → KeepsCounts (one_key_anatomy l free) p free
+  pub counts : (l : Layout) (p : Place) (free : List ℕ) → KeepsCounts (one_key_crew l free) p free
   pub limits : (l : Layout) (p : Place) (free : List ℕ) → IsSmall l → KeepsLimits (one_key_crew l free) l p free (one_key_limits l p free)
