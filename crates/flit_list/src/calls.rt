@@ -1,19 +1,16 @@
-ghost use Rattle.std.specs.Prelude.{◌≡◌, true, IsSome, ◌<◌, ◌-◌, ◌^◌};
-ghost use Rattle.flit_place.specs.Tags.{Place};
+ghost use Rattle.std.specs.Prelude.{◌≡◌, is_none};
 ghost use Rattle.flit_pv.specs.Exchanges.{exchange_of};
-ghost use Rattle.flit_structure.specs.Meanings.{IsServed};
-ghost use Rattle.flit_list.specs.Lists.{may_write_link};
-ghost use Rattle.flit_list_steps.specs.Steps.{op_begun, op_asked, op_taken, op_effect, exchanges_now, after_at, hand_at, FitsLink};
+ghost use Rattle.flit_list_steps.specs.Steps.{op_asked, exchanges_now};
 
-use crate::inserting::{answers, key_of};
+use crate::inserting::key_of;
 use crate::lists::List;
 use arrayvec::ArrayVec;
 use flit_list_steps::{LinkWord, ListOp, Path, Phase};
-use flit_model::{Call, Event, Reply};
+use flit_model::{Call, Event, Reply, Tally};
 use flit_place::Placement;
-use flit_pv::{Complete, Exchanging, Hand, PExchange, PrivateStore, Storing, VLoad, VLoading};
-use flit_rows::Taking;
-use flit_words::Word;
+use flit_pv::{Complete, Exchanging, Hand, PExchange, PrivateStore, VLoad};
+use flit_structure::Structure;
+use flit_words::Layout;
 
 const NO_WORD: LinkWord = LinkWord {
     word: 0,
@@ -43,11 +40,41 @@ fn exchanges_now<P: Placement>(hand: &Hand, place: &P, link: &PExchange) -> bool
 }
 
 impl<P: Placement + Drop> List<P> {
-    /// Begins a call, with the hand of the worker that makes it, whose number it raises by one. It makes no event.
-    pub fn start(&self, mut hand: Hand, call: Call) -> ListOp
-        requires { hand.number < 2 ^ 32 - 1 }
-        ensures { result ≡ op_begun self.now.layout hand call }
+    /// Whether no event comes any more: one look at the phase, and but for a confirmation no event is made for it.
+    fn rests(&self, op: &ListOp) -> bool
+        ensures { result ≡ is_none (op_asked (P.place self.now.place) op.now) }
     {
+        match &op.at {
+            Phase::Head(load) => load.loaded().is_some(),
+            Phase::Next(load) => load.loaded().is_some(),
+            Phase::Key(load) => load.loaded().is_some(),
+            Phase::Confirming { confirm, .. } => confirm.ask(&op.hand, &self.place).is_none(),
+            Phase::Help(help) => help.ended().is_some(),
+            Phase::Row(take) => take.ended().is_some(),
+            Phase::Words => op.store.ended().is_some(),
+            Phase::RowValue => op.store.ended().is_some(),
+            Phase::Link(link) => link.ended().is_some(),
+            Phase::Mark(mark) => mark.ended().is_some(),
+            Phase::Tidy(tidy) => tidy.ended().is_some(),
+            Phase::Value(load) => load.loaded().is_some(),
+            Phase::Ends => op.hand.queue.is_empty(),
+            Phase::Rests => true,
+        }
+    }
+}
+
+impl<P: Placement + Drop> Structure for List<P> {
+    ghost use Rattle.flit_list.specs.Lists.{list_of, list_is_lawful, list_is_wrappable};
+
+    type Op = ListOp;
+
+    ghost meaning = { list_of P.place };
+
+    fn layout(&self) -> &Layout {
+        &self.layout
+    }
+
+    fn start(&self, mut hand: Hand, call: Call) -> ListOp {
         hand.number += 1;
         hand.tally.tries = hand.tally.tries.saturating_add(1);
         ListOp {
@@ -60,10 +87,18 @@ impl<P: Placement + Drop> List<P> {
         }
     }
 
-    /// The event that comes next, or None exactly where the call has its reply.
-    pub fn ask(&self, op: &ListOp) -> Option<Event>
-        ensures { result ≡ op_asked (P.place self.now.place) op.now }
-    {
+    #[tactic(auto, using(flit_list_steps::specs::Phases::same_hand))]
+    fn start_again(&self, op: &mut ListOp, call: Call) {
+        op.hand.number += 1;
+        op.hand.tally.tries = op.hand.tally.tries.saturating_add(1);
+        op.call = call;
+        op.reply = Reply::No;
+        op.path = NO_PATH;
+        op.at = Phase::Head(VLoad::start(self.head(key_of(call))));
+    }
+
+    #[inline(always)]
+    fn ask(&self, op: &ListOp) -> Option<Event> {
         match &op.at {
             Phase::Head(load) => load.ask(&op.hand),
             Phase::Next(load) => load.ask(&op.hand),
@@ -82,99 +117,32 @@ impl<P: Placement + Drop> List<P> {
         }
     }
 
-    /// Gives the answer of the event asked for.
-    pub fn take(&self, op: &mut ListOp, answer: u64)
-        requires asked { IsSome (op_asked (P.place self.now.place) op.old) }
-        requires fits { may_write_link op.old.at ≡ true → FitsLink
-            (hand_at (after_at (P.place self.now.place) self.now.pool op.old.at answer)) }
-        ensures { op.new ≡ op_taken self.now.layout (P.place self.now.place) self.now.pool op.old
-            answer }
-    {
-        match &mut op.at {
-            Phase::Head(load) => {
-                load.take(&op.hand, answer);
-                let word = load.word;
-                if let VLoading::Has { raw } = load.at {
-                    self.head_got(op, word, raw);
-                }
-            }
-            Phase::Next(load) => {
-                load.take(&op.hand, answer);
-                let word = load.word;
-                if let VLoading::Has { raw } = load.at {
-                    self.link_got(op, word, raw);
-                }
-            }
-            Phase::Key(load) => {
-                load.take(&op.hand, answer);
-                if let VLoading::Has { raw } = load.at {
-                    self.key_got(op, raw);
-                }
-            }
-            Phase::Confirming {
-                goal,
-                which,
-                confirm,
-            } => {
-                confirm.take(&mut op.hand, &self.place, answer);
-                let (goal, which) = (*goal, *which);
-                if confirm.ask(&op.hand, &self.place).is_none() {
-                    confirm.end(&mut op.hand);
-                    self.confirmed(op, goal, which);
-                }
-            }
-            Phase::Help(help) => {
-                help.take(&mut op.hand, &self.place, answer);
-                let to = help.to;
-                if let Exchanging::Ended(how) = help.at {
-                    self.helped_so(op, to, how);
-                }
-            }
-            Phase::Row(take) => {
-                take.take(&mut op.hand, &self.pool, answer);
-                if let Taking::Ended(took) = take.at {
-                    self.row_so(op, took);
-                }
-            }
-            Phase::Words => {
-                op.store.take(&mut op.hand, answer);
-                if let Storing::Ended(how) = op.store.at {
-                    self.words_so(op, how);
-                }
-            }
-            Phase::RowValue => {
-                op.store.take(&mut op.hand, answer);
-                if let Storing::Ended(how) = op.store.at {
-                    self.row_value_so(op, how);
-                }
-            }
-            Phase::Link(link) => {
-                link.take(&mut op.hand, &self.place, answer);
-                if let Exchanging::Ended(how) = link.at {
-                    self.linked_so(op, how);
-                }
-            }
-            Phase::Mark(mark) => {
-                mark.take(&mut op.hand, &self.place, answer);
-                if let Exchanging::Ended(how) = mark.at {
-                    self.marked_so(op, how);
-                }
-            }
-            Phase::Tidy(tidy) => {
-                tidy.take(&mut op.hand, &self.place, answer);
-                if let Exchanging::Ended(_) = tidy.at {
-                    answers(op, Reply::Yes);
-                }
-            }
-            Phase::Value(load) => {
-                load.take(&op.hand, answer);
-                if let VLoading::Has { raw } = load.at {
-                    let value = Word::unpack(raw).value;
-                    answers(op, Reply::Found { value });
-                }
-            }
-            Phase::Ends => Complete.take(&mut op.hand, answer),
-            Phase::Rests => {}
+    #[inline(always)]
+    fn take(&self, op: &mut ListOp, answer: u64) {
+        self.answered(op, answer);
+    }
+
+    fn takes_effect(&self, op: &ListOp) -> bool {
+        match &op.at {
+            Phase::Link(link) => exchanges_now(&op.hand, &self.place, link),
+            Phase::Mark(mark) => exchanges_now(&op.hand, &self.place, mark),
+            _ => false,
         }
     }
+
+    fn reply(&self, op: &ListOp) -> Option<Reply> {
+        if self.rests(op) { Some(op.reply) } else { None }
+    }
+
+    fn tally(&self, op: &ListOp) -> Tally {
+        op.hand.tally
+    }
+
+    fn finish(&self, op: ListOp) -> Hand {
+        op.hand
+    }
+
+    ghost lawful = { list_is_lawful P.place };
+
+    ghost wrappable = { list_is_wrappable P.place };
 }

@@ -1,7 +1,7 @@
 ghost use Rattle.std.specs.Prelude.{◌≡◌, ◌<◌, ◌^◌};
 ghost use Rattle.flit_words.specs.Layouts.{row_word_of, value_word_of, head_of_key};
 ghost use Rattle.flit_list_steps.specs.Steps.{key_word, link_word};
-ghost use Rattle.flit_list.specs.Lists.{HasChains};
+ghost use Rattle.flit_list_laws.specs.ListCrew.{IsOfLists};
 
 use flit_rows::Pool;
 use flit_words::{Kind, Layout};
@@ -12,13 +12,13 @@ pub struct List<P: Drop> {
     pub layout: Layout,
     pub place: P,
     pub pool: Pool,
-    pub ghost chains: { HasChains layout },
+    pub ghost chains: { IsOfLists layout },
 }
 
 impl<P: Drop> List<P> {
     /// The map over a layout of lists, with the placement of its tags and the pool of its free rows.
     pub fn new(layout: Layout, place: P, pool: Pool) -> List<P>
-        requires { HasChains layout }
+        requires { IsOfLists layout }
         ensures layout { result.layout ≡ layout }
         ensures place { result.place ≡ place }
         ensures pool { result.pool ≡ pool }

@@ -1,5 +1,5 @@
 -- Words that nobody may reach, and their shadows, change nothing.
-use Rattle.std.proofs.Common.{◌≡◌, ℕ, ◌<◌, ◌≤◌, slice_index, length, Bool, false, List, [], Option, refl, sym, ap, ◌∙◌, inl, subst}
+use Rattle.std.proofs.Common.{◌≡◌, ℕ, ◌<◌, ◌≤◌, slice_index, length, Bool, false, List, [], Option, refl, sym, ap, ◌∙◌, inl, inr, subst}
 use Rattle.std.proofs.lemmas.Bool.{both_ways}
 use Rattle.std.proofs.lemmas.List.{append-nil}
 use Rattle.flit_words.specs.declared.layouts.Layout.{Layout}
@@ -11,7 +11,7 @@ use Rattle.flit_model.specs.Lists.{key_in, row_value_in}
 use Rattle.flit_structure.specs.Moments.{Opening}
 use Rattle.flit_crew.specs.Heaps.{at_word, at_shadow, IsOpen, AreAlike}
 use Rattle.flit_list_heap.specs.Links.{LinkWord, place_of, is_marked}
-use Rattle.flit_list_heap.specs.Keeping.{ListHeap, IsLinked, IsLinkAt, rows_at, word_in, shadow_in, entry_in, content_of, Kept, Later}
+use Rattle.flit_list_heap.specs.Keeping.{ListHeap, IsLinked, IsLinkAt, rows_at, word_in, shadow_in, entry_in, content_of, HasInsert, Kept, Later}
 use Rattle.flit_list_heap.proofs.Parts.{value_with}
 use Rattle.flit_list_heap.proofs.Agreeing.{heap-agrees}
 use Rattle.flit_list_heap.proofs.Rekeying.{heap-rekeyed}
@@ -68,6 +68,8 @@ module _ (l : Layout) (free : List ℕ) (h : ListHeap) (kept : Kept l free h) (w
     values = λ r m v. words (value_word_of l r) (value_open l free h kept r v m) ∙ kept.values r m v
         ∙ sym (shadows (value_word_of l r) (value_open l free h kept r v m));
     small = λ r m. subst (λ n. n ≤ GREATEST_KEY) (sym (key_at r m)) (kept.small r m);
+    stays = λ r a. key_at r (inl a) ∙ kept.stays r a;
+    grown = λ r g. subst (HasInsert h.progress) (sym (key_at r (inr g))) (kept.grown r g);
     elsewhere = kept.elsewhere;
     legal = kept.legal;
     chained = heap-rekeyed (rows_at l h) (key_in l ws) (row_value_in l ws) (λ r m. key_at r m) (λ r m. value_at r m)

@@ -20,7 +20,7 @@ use Rattle.flit_crew.specs.Heaps.{at_word, at_shadow, waits_at, won, IsOpen, IsW
 use Rattle.flit_list_heap.specs.Links.{LinkWord, Head, Next, Rows, place_of, IsLink, link_held, row_of, is_marked, by_of}
 use Rattle.flit_list_heap.specs.Chained.{Chained}
 use Rattle.flit_list_heap.specs.Moves.{with_linked, plain_link, marked_link, Still}
-use Rattle.flit_list_heap.specs.Keeping.{ListHeap, IsLinked, IsLinkAt, rows_at, word_in, shadow_in, entry_in, content_of, Kept, Later}
+use Rattle.flit_list_heap.specs.Keeping.{ListHeap, IsLinked, IsLinkAt, rows_at, word_in, shadow_in, entry_in, content_of, HasInsert, Kept, Later}
 use Rattle.flit_list_heap.specs.Winning.{MayChange, MayMark, MayUnlink, MayLink}
 use Rattle.flit_list_heap.proofs.Base.{cases_word}
 use Rattle.flit_list_heap.proofs.Parts.{value_with, mark-held, by-held}
@@ -29,6 +29,7 @@ use Rattle.flit_list_heap.proofs.Agreeing.{heap-agrees}
 use Rattle.flit_list_heap.proofs.Rekeying.{heap-rekeyed}
 use Rattle.flit_list_heap.proofs.Picking.{put_at, pick_here, pick_there, put_changed}
 use Rattle.flit_list_heap.proofs.Progressing.{effect_off, effect_here, effect_list}
+use Rattle.flit_list_heap.proofs.Inserting.{insert_stays, insert_waits}
 use Rattle.flit_list_heap.proofs.Places.{place_one, place_below, key_apart, value_apart, row_fits, next-place, pool_from}
 
 module _ (l : Layout) (free : List ℕ) (h : ListHeap) (kept : Kept l free h) (y : LinkWord) (from to : ℕ) (may : MayChange l h y from to)
@@ -87,6 +88,7 @@ module _ (l : Layout) (free : List ℕ) (h : ListHeap) (kept : Kept l free h) (y
     pub keys : (row : ℕ) → IsLinked l k row → at_word h (row_word_of l row 0) ≡ at_shadow h (row_word_of l row 0)
     pub values : (row : ℕ) → IsLinked l k row → l.values ≡ true → at_word h (value_word_of l row) ≡ at_shadow h (value_word_of l row)
     pub small : (row : ℕ) → IsLinked l k row → key_in l h.words row ≤ GREATEST_KEY
+    pub grown : (row : ℕ) → Contains (rows ++ h.given) row → HasInsert k.progress (key_in l h.words row)
     -- and no new link word stands where the changed one does
     pub one : (x : LinkWord) → IsLinkAt l k x → place_of l x ≡ w → x ≡ y
 
@@ -128,6 +130,8 @@ module _ (l : Layout) (free : List ℕ) (h : ListHeap) (kept : Kept l free h) (y
       keys = λ r m. now_off (row_word_of l r 0) (not_key r) ∙ j.keys r m;
       values = λ r m v. now_off (value_word_of l r) (not_value r) ∙ j.values r m v;
       small = λ r m. subst (λ n. n ≤ GREATEST_KEY) (sym (key_stays r)) (j.small r m);
+      stays = λ r a. key_stays r ∙ kept.stays r a;
+      grown = λ r g. subst (HasInsert k.progress) (sym (key_stays r)) (j.grown r g);
       elsewhere = λ v a. effect_off h.progress w v e (λ s. a y (wider y may.link) (sym s)) ∙ kept.elsewhere v (λ x m z. a x (wider x m) z);
       legal = subst (IsLegal h.opening.content) (sym same_list) kept.legal;
       chained = subst (Chained (rows_at l k) h.ghost (word_in l k) (shadow_in l k) (entry_in l k)) (ap (map_after_all h.opening.content) (sym same_list))
@@ -178,6 +182,7 @@ module _ (l : Layout) (free : List ℕ) (h : ListHeap) (kept : Kept l free h) (y
       keys = kept.keys;
       values = kept.values;
       small = kept.small;
+      grown = λ r g. insert_stays h.progress (place_of l y) (key_in l h.words r) e (quiet_of l free h kept y from to may e []) (kept.grown r g);
       one = λ x m z. place_one l free h kept x y (same x m) may.link z;
     }
       where
@@ -319,6 +324,9 @@ module _ (l : Layout) (free : List ℕ) (h : ListHeap) (kept : Kept l free h) (y
     })
   ]
 
+  quiet : waits_at h (place_of l y) ≡ None
+  quiet = quiet_of l free h kept y from to may.change (Some update) (row ∷ [])
+
   row_joining : Joining l free h kept y from to may.change (Some update) (row ∷ [])
   row_joining = record {
     given = λ q m. elim (contains_cases row h.given q m) [ inl s ↦ subst (Contains free) s pool_row | inr n ↦ kept.given q n ];
@@ -330,6 +338,11 @@ module _ (l : Layout) (free : List ℕ) (h : ListHeap) (kept : Kept l free h) (y
     values = λ q m v. elim (only q m) [
       | inl o ↦ kept.values q o v
       | inr s ↦ subst (λ z. at_word h (value_word_of l z) ≡ at_shadow h (value_word_of l z)) (sym s) (word_rests (value_word_of l row) (inr (v, refl)))
+    ];
+    grown = λ q m. elim (contains_cases row h.given q m) [
+      | inl s ↦ subst (λ z. HasInsert grown.progress (key_in l h.words z)) s
+          (insert_waits h.progress (place_of l y) (key_in l h.words row) (row_value_in l h.words row) update quiet may.call)
+      | inr n ↦ insert_stays h.progress (place_of l y) (key_in l h.words q) (Some update) quiet (kept.grown q n)
     ];
     small = λ q m. elim (only q m) [ inl o ↦ kept.small q o | inr s ↦ subst (λ z. key_in l h.words z ≤ GREATEST_KEY) (sym s) may.small ];
     one = λ x m z. one_place x m z;
@@ -344,7 +357,7 @@ module _ (l : Layout) (free : List ℕ) (h : ListHeap) (kept : Kept l free h) (y
 
   pub kept_linked : Kept l free grown
   kept_linked = kept_won l free h kept y from to may.change (Some update) (row ∷ []) row_joining
-      (quiet_of l free h kept y from to may.change (Some update) (row ∷ []))
+      quiet
       (move-link (rows_at l h) h.ghost (word_in l h) (shadow_in l h) (entry_in l h) (content_of h) kept.chained y
       (still l free h kept y from to may.change (Some update) (row ∷ [])) to
       (put_at (word_in l h) y to) (put_changed (word_in l h) y to) (Some update) (put_at (entry_in l h) y (Some update))

@@ -11,6 +11,7 @@ pub mod Agreeing
 pub mod Rekeying
 pub mod Places
 pub mod Progressing
+pub mod Inserting
 pub mod Picking
 pub mod Writing
 pub mod Exchanging

@@ -193,6 +193,8 @@ module _ (l : Layout) (accepted : Accepted l) (kind : l.kind ≢ Tree_kind) (o :
     small = λ r m. all_contained (λ r. key_in l image r ≤ GREATEST_KEY) (chain (on_head r m).head) r
         (lawful.chains (on_head r m).head (on_head r m).below).within
         (on_head r m).has;
+    stays = λ r a. refl;
+    grown = λ r g. absurd (contains_none r g);
     elsewhere = λ w a. get-empty nat_cmp w;
     legal = tt;
     chained = record {

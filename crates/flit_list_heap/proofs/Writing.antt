@@ -21,6 +21,7 @@ use Rattle.flit_list_heap.proofs.Reaching.{joins}
 use Rattle.flit_list_heap.proofs.Agreeing.{heap-agrees}
 use Rattle.flit_list_heap.proofs.Picking.{put_at, pick_here, pick_there, put_changed}
 use Rattle.flit_list_heap.proofs.Progressing.{settled_off, settled_here, settled_list, settled_map, settled_legal, grown_after}
+use Rattle.flit_list_heap.proofs.Inserting.{insert_settled}
 use Rattle.flit_list_heap.proofs.Places.{At, at_word_or, place_one}
 
 module _ (l : Layout) (free : List ℕ) (h : ListHeap) (kept : Kept l free h) (w : ℕ) (below : w < words_of l) (bare : is_tagged (at_word h w) ≡ false) where
@@ -128,6 +129,8 @@ module _ (l : Layout) (free : List ℕ) (h : ListHeap) (kept : Kept l free h) (w
     keys = λ r lr. still_solid (row_word_of l r 0) (kept.keys r lr);
     values = λ r lr v. still_solid (value_word_of l r) (kept.values r lr v);
     small = kept.small;
+    stays = kept.stays;
+    grown = λ r g. insert_settled h.progress w (key_in l h.words r) (kept.grown r g);
     elsewhere = λ v a. elim (cases_eq v w) [
       | inl e ↦ settled_here h.progress w v o refl e
       | inr ne ↦ settled_off h.progress w v o ne ∙ kept.elsewhere v a

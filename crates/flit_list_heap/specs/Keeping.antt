@@ -5,9 +5,12 @@ use Rattle.flit_words.specs.declared.layouts.Layout.{Layout}
 use Rattle.flit_words.specs.declared.limits.TheConstants.{GREATEST_KEY}
 use Rattle.flit_words.specs.Layouts.{Accepted, words_of, row_word_of, value_word_of, head_of_key}
 use Rattle.flit_words.specs.Words.{is_tagged, version_of}
-use Rattle.flit_model.specs.Maps.{Map, IsLegal, map_after_all}
+use Rattle.flit_model.specs.Maps.{Map, IsLegal, map_after_all, key_of}
 use Rattle.flit_model.specs.Lists.{IsLawfulList, rows_on_chains, key_in, row_value_in}
+use Rattle.flit_model.specs.Settling.{Progress}
 use Rattle.flit_model.specs.declared.calls.Entry.{Entry}
+use Rattle.flit_structure.specs.Moments.{made}
+use Rattle.flit_structure.specs.Lawful.{is_insert}
 use Rattle.flit_crew.specs.Heaps.{Heap, at_word, at_shadow, waits_at, IsOpen}
 use Rattle.flit_crew.specs.Accounts.{IsPool}
 use Rattle.flit_list_heap.specs.Links.{LinkWord, Rows, place_of, IsLink, is_marked, by_of}
@@ -53,6 +56,13 @@ content_of h = map_after_all h.opening.content h.progress.settled
 abbrev pub IsLinkAt : Layout → ListHeap → LinkWord → Type 0
 IsLinkAt l h x = IsLink (rows_at l h) x
 
+-- an insert of this key was made
+pub record HasInsert (q : Progress) (key : ℕ) : Type 0 where
+  pub update : Entry
+  pub among : Contains (made q) update
+  pub insert : is_insert update.call ≡ true
+  pub of_key : key_of update.call ≡ key
+
 pub record Kept (l : Layout) (free : List ℕ) (h : ListHeap) : Type 0 where
   pub accepted : Accepted l
   pub pool : IsPool l free
@@ -68,6 +78,9 @@ pub record Kept (l : Layout) (free : List ℕ) (h : ListHeap) : Type 0 where
   pub keys : (row : ℕ) → IsLinked l h row → at_word h (row_word_of l row 0) ≡ at_shadow h (row_word_of l row 0)
   pub values : (row : ℕ) → IsLinked l h row → l.values ≡ true → at_word h (value_word_of l row) ≡ at_shadow h (value_word_of l row)
   pub small : (row : ℕ) → IsLinked l h row → key_in l h.words row ≤ GREATEST_KEY
+  -- and the keys are those that the start image has, and those of the inserts that were made
+  pub stays : (row : ℕ) → IsReached l h.opening.words row → key_in l h.words row ≡ key_in l h.opening.words row
+  pub grown : (row : ℕ) → Contains h.given row → HasInsert h.progress (key_in l h.words row)
   -- updates wait at link words alone; the settled ones are legal
   pub elsewhere : (w : ℕ) → ((x : LinkWord) → IsLinkAt l h x → place_of l x ≡ w → ⊥) → waits_at h w ≡ None
   pub legal : IsLegal h.opening.content h.progress.settled

@@ -164,6 +164,7 @@ module _ (l : Layout) (h : ListHeap) (me : Who) (w : Walk) (n : Loaded) (m k : H
 
   helped_on : Helped l h me w m → Helped l h me w k
   helped_on f = record {
+    word = s.word ∙ f.word;
     behind = f.behind;
     back = f.back;
     back_sure = f.back_sure;

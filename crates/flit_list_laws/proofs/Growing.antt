@@ -117,6 +117,7 @@ module _ (l : Layout) (h : ListHeap) (me : Who) (ns : List Dependency) (ss : Lis
 
   helped : (w : Walk) (m : HeldExchange) → Helped l h me w m → Helped l h you w m
   helped w m f = record {
+    word = f.word;
     behind = f.behind;
     back = back_held w.back f.back;
     back_sure = back_same w.back f.back_sure;

@@ -157,6 +157,7 @@ module _ (l : Layout) (free : List ℕ) (h k : ListHeap) (who : Option ℕ) (me 
 
   helped : (w : Walk) (m : HeldExchange) → Helped l h me w m → Helped l k me w m
   helped w m f = record {
+    word = f.word;
     behind = seen.behind_lasts l who h k goes free kept key (pair_if w.back) w.link.word f.behind;
     back = f.back;
     back_sure = f.back_sure;

@@ -167,6 +167,7 @@ module _ (l : Layout) (lists : IsOfLists l) (p : Place) (free : List ℕ) (h : L
     helped_then g =
         let s = seen.spot_lasts l None h k goes free kept_then key_you (pair_if w.back) w.link.word (bare_of w.link.raw) g.sure.stands.spot in
         let unmarked : is_marked m.to ≡ false = mark-held m.to (plain_link (row_of (bare_of n.raw))) g.to in record {
+          word = g.aim.word;
           behind = s.behind;
           back = g.sure.stands.back;
           back_sure = g.sure.back;

@@ -153,6 +153,7 @@ module _ (l : Layout) (h : ListHeap) (me : Who) where
     pub to : link_held m.to ≡ plain_link (row_of (bare_of n.raw))
 
   pub record Helped (w : Walk) (m : HeldExchange) : Type 0 where
+    pub word : m.word ≡ place_of l w.link.word
     pub behind : IsBehind l h (key_of me.call) (pair_if w.back) w.link.word
     pub back : IsBackHeld l me w.back
     pub back_sure : IsBackSure l me w.back

@@ -1,13 +1,12 @@
 -- The hand of a call as it goes on from its ended machine: that of the machine, but for loads that end without an event.
-use Rattle.std.proofs.Common.{◌≡◌, ℕ, ◌+◌, ◌-◌, ◌^◌, ◌==◌, ◌≤◌, ◌&&◌, min, nat_le, nat_lt, not, Bool, true, false, List, [], ◌∷◌, Option, Some, None, is_none, refl, sym, ◌∙◌, ap, arith, if◌then◌else◌}
-use Rattle.std.proofs.lemmas.Bool.{false≢true}
+use Rattle.std.proofs.Common.{◌≡◌, ℕ, ◌-◌, ◌^◌, ◌==◌, ◌≤◌, ◌&&◌, nat_le, nat_lt, not, Bool, true, false, List, Option, Some, None, is_none, refl, ◌∙◌, arith, if◌then◌else◌}
 use Rattle.flit_words.specs.declared.layouts.Layout.{Layout}
 use Rattle.flit_words.specs.Layouts.{value_word_of}
 use Rattle.flit_words.specs.Words.{version_of, value_of, is_tagged}
 use Rattle.flit_model.specs.declared.calls.Call.{Call}
 use Rattle.flit_model.specs.declared.calls.Call.TheVariants.{Insert, Remove, Contains, Get}
 use Rattle.flit_model.specs.declared.calls.Reply.{Reply}
-use Rattle.flit_model.specs.declared.calls.Reply.TheVariants.{Yes, No, Found, Full, Worn}
+use Rattle.flit_model.specs.declared.calls.Reply.TheVariants.{Found}
 use Rattle.flit_place.specs.Tags.{Place}
 use Rattle.flit_pv.specs.declared.hands.Hand.{Hand}
 use Rattle.flit_pv.specs.Hands.{with_queued, with_omitted, more}
@@ -21,9 +20,9 @@ use Rattle.flit_pv.specs.Confirms.{HeldConfirm, confirm_started, confirm_asked, 
 use Rattle.flit_pv.specs.Exchanges.{HeldExchange}
 use Rattle.flit_pv.specs.declared.exchanges.Exchanging.{Exchanging}
 use Rattle.flit_pv.specs.declared.exchanges.Exchanging.TheVariants.{Ready, Tries, TriesBare, WritesBack, Withdraws, Lowers, Ended}
-use Rattle.flit_pv.specs.declared.exchanges.Exchanged.TheVariants.{Won, Lost, Worn as Exchange_worn}
+use Rattle.flit_pv.specs.declared.exchanges.Exchanged.TheVariants.{Worn as Exchange_worn}
 use Rattle.flit_pv.specs.Drafts.{next_bare}
-use Rattle.flit_pv.specs.Stores.{HeldStore, store_started}
+use Rattle.flit_pv.specs.Stores.{HeldStore}
 use Rattle.flit_pv.specs.declared.stores.Storing.{Storing}
 use Rattle.flit_pv.specs.declared.stores.Storing.TheVariants.{Reads as Store_reads, MakesRoom as Store_makes_room, Writes, Ended as Store_ended}
 use Rattle.flit_pv.specs.declared.stores.Stored.TheVariants.{Stored as All_stored, Worn as Store_worn}
@@ -31,14 +30,14 @@ use Rattle.flit_rows.specs.declared.take_row.Took.TheVariants.{Taken, None as No
 use Rattle.flit_rows.specs.declared.take_row.Taking.{Taking}
 use Rattle.flit_rows.specs.declared.take_row.Taking.TheVariants.{Draws, Ended as Take_ended}
 use Rattle.flit_rows.specs.Taking.{HeldTake, take_started}
-use Rattle.flit_structure.specs.Meanings.{key_of, value_put}
+use Rattle.flit_structure.specs.Meanings.{key_of}
 use Rattle.flit_list_steps.specs.declared.operations.LinkWord.{LinkWord}
 use Rattle.flit_list_steps.specs.declared.operations.Goal.{Goal}
 use Rattle.flit_list_steps.specs.declared.operations.Goal.TheVariants.{Help as To_help, Found as To_found, Absent as To_absent}
 use Rattle.flit_list_steps.specs.declared.operations.Which.{Which}
 use Rattle.flit_list_steps.specs.declared.operations.Which.TheVariants.{Back as The_back, Pred as The_pred, Next as The_next}
-use Rattle.flit_list_steps.specs.Operations.{At, Head, Next, Key, Confirming, Help, Row, Words, RowValue, Link, Mark, Tidy, Value, HeldOp}
-use Rattle.flit_list_steps.specs.Steps.{Carried, stands, row_of, is_marked, to_row, remover, to_row_marked, key_word, link_word, with_helped, own_row, row_at, answers, tidy_by, tidy_next, tidies, mark_next, marks, link_next, links, row_value_by, stores_value, words_by, stores, row_by, takes_row, value_by, value_next, found, absent, help_starts, helps, reached, confirms_by, wants_next, confirms_next, confirms_pred, confirms_back, confirms, next_confirmed, pred_confirmed, back_is_confirmed, with_confirmed, confirmed, confirming_next, looks, key_by, next_by, head_by, further, unlinked, with_next, from_head, hand_at}
+use Rattle.flit_list_steps.specs.Operations.{Next, Key, Confirming, HeldOp}
+use Rattle.flit_list_steps.specs.Steps.{Carried, stands, row_of, is_marked, to_row, remover, to_row_marked, key_word, link_word, own_row, row_at, answers, tidy_by, tidy_next, tidies, mark_next, marks, link_next, links, row_value_by, stores_value, words_by, row_by, takes_row, value_by, value_next, found, absent, help_starts, helps, reached, confirms_by, wants_next, confirms_next, confirms_pred, confirms_back, confirms, next_confirmed, pred_confirmed, back_is_confirmed, with_confirmed, confirmed, confirming_next, looks, key_by, next_by, head_by, further, with_next, from_head, hand_at}
 
 -- a hand as a call goes on with it: loads may be counted, and nothing else
 pub record Quiet (hand now : Hand) : Type 0 where

@@ -1,6 +1,14 @@
 pub mod Carrying
 pub mod ListCounts
 pub mod Searches
+pub mod Paying
 pub mod Arriving
-pub mod Confirming
-pub mod Looking
+pub mod Again
+pub mod Keys
+pub mod Steady
+pub mod Resuming
+pub mod OwnStores
+pub mod Running
+pub mod Ending
+pub mod Exchanging
+pub mod Limiting

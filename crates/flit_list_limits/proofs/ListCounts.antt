@@ -4,16 +4,13 @@ use Rattle.std.proofs.Common.{◌≡◌, ◌⊎◌, inl, inr, ℕ, ◌≤◌, �
 use Rattle.std.proofs.lemmas.Bool.{false≢true}
 use Rattle.std.specs.Prelude.{Contains}
 use Rattle.flit_words.specs.declared.layouts.Layout.{Layout}
-use Rattle.flit_model.specs.declared.calls.Call.{Call}
-use Rattle.flit_model.specs.declared.calls.Reply.TheVariants.{Yes}
-use Rattle.flit_model.specs.declared.calls.Tally.{Tally}
 use Rattle.flit_place.specs.Tags.{Place}
 use Rattle.flit_pv.specs.declared.hands.Hand.{Hand}
 use Rattle.flit_pv.specs.Tallies.{IsTally}
 use Rattle.flit_pv.specs.VLoads.{v_load_taken}
 use Rattle.flit_pv.specs.Confirms.{confirm_taken}
 use Rattle.flit_pv.specs.Stores.{store_taken}
-use Rattle.flit_pv.specs.Exchanges.{HeldExchange, exchange_asked, exchange_taken}
+use Rattle.flit_pv.specs.Exchanges.{HeldExchange, exchange_taken}
 use Rattle.flit_pv.specs.Fences.{complete_asked, complete_taken}
 use Rattle.flit_pv.specs.declared.exchanges.Exchanging.{Exchanging}
 use Rattle.flit_pv.specs.declared.exchanges.Exchanging.TheVariants.{Ready, Tries, TriesBare, WritesBack, Withdraws, Lowers, Ended}
@@ -22,19 +19,19 @@ use Rattle.flit_rows.specs.Taking.{take_taken}
 use Rattle.flit_structure.specs.Lawful.{AreSpareIn, is_insert}
 use Rattle.flit_crew.specs.Machines.{Machine, machine_takes, hand_in, has_ended, exchange_deed, has_linked}
 use Rattle.flit_crew.specs.Anatomies.{Anatomy}
-use Rattle.flit_crew_bounds.specs.Counting.{GoesOnWith, tally_of, HasLinkedBy}
+use Rattle.flit_crew_bounds.specs.Counting.{GoesOnWith, tally_of, HasLinkedBy, KeepsCounts}
 use Rattle.flit_list_steps.specs.Operations.{At, Head, Next, Key, Confirming, Help, Row, Words, RowValue, Link, Mark, Tidy, Value, Ends, Rests, HeldOp}
 use Rattle.flit_list_steps.specs.Steps.{Carried, carried, with_search, with_helped, link_by, mark_by, tidy_by, tidy_next, help_by, unlinked, to_row, row_of, hand_at}
 use Rattle.flit_list_laws.specs.ListAnatomy.{machine_at, resumed, list_anatomy}
 use Rattle.flit_list_laws.specs.Walks.{Loaded, Walk}
-use Rattle.flit_list_laws.specs.ListCrew.{KnowsAt, Knows}
+use Rattle.flit_list_laws.specs.ListCrew.{KnowsAt, Knows, list_crew}
 use Rattle.flit_list_laws.proofs.Sitting.{sits_head, sits_next_at, sits_key, sits_confirming, sits_help_at, sits_row, sits_words, sits_row_value, sits_value}
 use Rattle.flit_structure.specs.Meanings.{value_put}
 use Rattle.flit_list_heap.specs.Keeping.{ListHeap}
 use Rattle.flit_crew.specs.Crews.{Who}
 use Rattle.flit_words.specs.Words.{version_of}
 use Rattle.flit_pv.proofs.Asking.{has_won}
-use Rattle.flit_list_limits.specs.Laws.{ListCounts, ListsCount}
+use Rattle.flit_list_limits.specs.Laws.{ListsCount}
 use Rattle.flit_list_limits.proofs.Carrying.{worn_one, fresh_one, Quiet, quiet_same, top, to_tidy, tidied, words_stored, value_stored, row_taken, value_loaded, confirmed_so, to_looks, key_loaded, next_loaded, head_loaded}
 
 same_le : (n : ℕ) → n ≤ n
@@ -330,11 +327,11 @@ module _ (l : Layout) (p : Place) (free : List ℕ) (op : HeldOp) (told : ℕ) w
       AreSpareIn (hand_in (machine_at (resumed l p free op (m_at op.at)).at)) (hand_in (m_at op.at)) ⊎ HasLinkedBy A op (m_at op.at)
   spares_on h me knows same ended = spares_at op.at ended (insert_at h me knows.walk knows.next op.at same knows.at)
 
-list_counts : (l : Layout) (p : Place) (free : List ℕ) → ListCounts l p free
+list_counts : (l : Layout) (p : Place) (free : List ℕ) → KeepsCounts (list_crew l p free) p free
 list_counts l p free = record {
   begun = λ hand call t. record { same = refl; tries = inr refl };
   resumed = λ op m e t. resumed_by op m e.told e.is e.ended t;
-  spare = λ h me op m knows same e. spare_by h me op m e.told knows same e.is e.ended;
+  spare = λ h me op m kept knows same e. spare_by h me op m e.told knows same e.is e.ended;
 }
   where
     resumed_by : (op : HeldOp) (m : Machine) (told : ℕ) → m ≡ machine_takes p free (machine_at op.at) told → has_ended p m ≡ true → IsTally (hand_in m).tally →

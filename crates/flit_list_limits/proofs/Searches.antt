@@ -1,10 +1,8 @@
 -- A call begins a search only where an exchange was lost.
-use Rattle.std.proofs.Common.{◌≡◌, ◌⊎◌, inl, inr, ℕ, ◌&&◌, Bool, true, false, List, is_none, refl, sym, ◌∙◌, ap, subst}
+use Rattle.std.proofs.Common.{◌≡◌, ◌⊎◌, inl, inr, ℕ, true, List, is_none, refl, sym, ◌∙◌, ap, subst}
 use Rattle.flit_words.specs.declared.layouts.Layout.{Layout}
 use Rattle.flit_model.specs.declared.calls.Tally.{Tally}
 use Rattle.flit_place.specs.Tags.{Place}
-use Rattle.flit_pv.specs.declared.hands.Hand.{Hand}
-use Rattle.flit_pv.specs.Hands.{more}
 use Rattle.flit_pv.specs.VLoads.{v_load_taken}
 use Rattle.flit_pv.specs.Confirms.{confirm_taken}
 use Rattle.flit_pv.specs.Stores.{store_taken}
@@ -16,14 +14,12 @@ use Rattle.flit_pv.specs.declared.exchanges.Exchanged.TheVariants.{Won, Lost, Wo
 use Rattle.flit_rows.specs.Taking.{take_taken}
 use Rattle.flit_structure.specs.Meanings.{value_put}
 use Rattle.flit_crew.specs.Machines.{Machine, machine_takes, hand_in, has_ended}
-use Rattle.flit_crew.specs.Crews.{Crew}
 use Rattle.flit_crew_bounds.specs.Counting.{tally_of}
 use Rattle.flit_crew_bounds.specs.Bounding.{BeginsSearch}
 use Rattle.flit_list_steps.specs.Operations.{At, Head, Next, Key, Confirming, Help, Row, Words, RowValue, Link, Mark, Tidy, Value, Ends, Rests, HeldOp}
 use Rattle.flit_list_steps.specs.Steps.{Carried, carried, with_helped, link_by, mark_by, help_by, unlinked, hand_at}
 use Rattle.flit_list_laws.specs.ListAnatomy.{machine_at, resumed, list_anatomy}
 use Rattle.flit_list_laws.specs.ListCrew.{list_crew}
-use Rattle.flit_list_limits.specs.Laws.{ListSearches, ListsSearch}
 use Rattle.flit_list_limits.proofs.Carrying.{to_tidy, tidied, words_stored, value_stored, row_taken, value_loaded, confirmed_so, to_looks, key_loaded, next_loaded, head_loaded}
 use Rattle.flit_list_limits.proofs.ListCounts.{same_hand, and_false}
 
@@ -131,11 +127,5 @@ module _ (l : Layout) (p : Place) (free : List ℕ) (op : HeldOp) (told : ℕ) w
   abbrev GoesSo : Tally → Type 0
   GoesSo now = (now.tries ≡ (hand_in (m_at op.at)).tally.tries) ⊎ BeginsSearch (list_crew l p free) l p free (m_at op.at) (hand_in (m_at op.at)).tally now
 
-  searches_so : has_ended p (m_at op.at) ≡ true → GoesSo (tally_of (list_anatomy l p free) (resumed l p free op (m_at op.at)))
+  pub searches_so : has_ended p (m_at op.at) ≡ true → GoesSo (tally_of (list_anatomy l p free) (resumed l p free op (m_at op.at)))
   searches_so ended = subst GoesSo (sym (ap (λ x. x.tally) (same_hand (next_at op.at)))) (searched op.at ended)
-
-list_searches : (l : Layout) (p : Place) (free : List ℕ) → ListSearches l p free
-list_searches l p free = record { searches = λ op told ended. searches_so l p free op told ended }
-
-pub lists_search : ListsSearch
-lists_search = record { searches = list_searches }

@@ -4,4 +4,4 @@
 
 mod laws;
 
-pub use laws::{lists_count, lists_pay, lists_search};
+pub use laws::{lists_count, lists_keep_limits};

@@ -1,0 +1,3 @@
+mod OpenedLists
+mod ItemCounts
+mod Works

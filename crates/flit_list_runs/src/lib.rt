@@ -1,0 +1,8 @@
+//! Lists and hash tables under scheduled runs.
+#![tactic(auto)]
+
+mod opening;
+#[cfg(test)]
+mod tests;
+
+pub use opening::open_list;

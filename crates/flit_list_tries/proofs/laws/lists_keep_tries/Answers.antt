@@ -1,0 +1,5 @@
+use Rattle.flit_list_tries.proofs.Tries.{lists_keep_tries}
+use Rattle.flit_list_tries.proofs.laws.lists_keep_tries.Goals as goal
+
+pub returns : goal.returns
+returns c = lists_keep_tries

@@ -1,0 +1,2 @@
+pub mod ListTries
+pub mod Laws
