@@ -25,6 +25,11 @@ version_up : (a b : ℕ) → Follows a b → version_of a ≤ version_of b
 version_up a b (inl e) = omega (arith, ap version_of e)
 version_up a b (inr f) = omega (arith, f.0)
 
+-- a flag keeps its row
+pub flag_follows : (q b : ℕ) → Follows q b → flag_of q ≡ true → (row_of b ≡ row_of q) × (flag_of b ≡ true)
+flag_follows q b (inl e) f = (ap row_of (sym e), ap flag_of (sym e) ∙ f)
+flag_follows q b (inr y) f = y.2 f
+
 -- a past value stays past
 pub past_on : (h k : TreeHeap) (edge q : ℕ) → EdgeGoesOn h k edge → IsPast h edge q → IsPast k edge q
 past_on h k edge q (inl (w, inl s)) p = rw (w, s) p
@@ -74,7 +79,7 @@ module _ (l : Layout) (free : List ℕ) (who : Option ℕ) (h k : TreeHeap) (K :
     linked = linked_on (row_of q) x.linked;
   }
 
-  side_same : (key row : ℕ) → IsLinked l h row → side_now l k key row ≡ side_now l h key row
+  pub side_same : (key row : ℕ) → IsLinked l h row → side_now l k key row ≡ side_now l h key row
   side_same key row i = ap (λ w. cond (nat_lt key (value_of w)) (left row) (right row)) (L.rows row i).key
 
   -- the frozen edges that a search came by
@@ -110,17 +115,13 @@ module _ (l : Layout) (free : List ℕ) (h : TreeHeap) (K : IsKept l free h) (ne
     | inr a ↦ absurd (omega (arith, a, P edge (version_of q) x.needed, ap version_of e))
   ]
 
-  flag_follows : (b : ℕ) → Follows q b → flag_of q ≡ true → (row_of b ≡ row_of q) × (flag_of b ≡ true)
-  flag_follows b (inl e) f = (ap row_of (sym e), ap flag_of (sym e) ∙ f)
-  flag_follows b (inr y) f = y.2 f
-
   -- a flag that was loaded stays, in word and shadow
   pub loaded_flag : flag_of q ≡ true → (row_of (at_word h edge) ≡ row_of q) × (flag_of (at_word h edge) ≡ true) × (flag_of (at_shadow h edge) ≡ true)
   loaded_flag f =
-      let w = flag_follows (at_word h edge) x.past.0 f in (
+      let w = flag_follows q (at_word h edge) x.past.0 f in (
         w.0,
         w.1,
-        elim x.past.1 [ inl e ↦ ap flag_of (sym (rest_of e)) ∙ w.1 | inr y ↦ (flag_follows (at_shadow h edge) y.1 f).1 ],
+        elim x.past.1 [ inl e ↦ ap flag_of (sym (rest_of e)) ∙ w.1 | inr y ↦ (flag_follows q (at_shadow h edge) y.1 f).1 ],
       )
 
   -- what was loaded frozen is the word still, and at rest

@@ -1,0 +1,4 @@
+pub mod TreeAnatomy
+pub mod Knowing
+pub mod TreeCrew
+pub mod Laws

@@ -1,0 +1,14 @@
+pub mod Following
+pub mod TreeCounts
+pub mod TreeWords
+pub mod Starting
+pub mod Resuming
+pub mod Loading
+pub mod Withdrawing
+pub mod OwnStores
+pub mod Linking
+pub mod Ending
+pub mod Cleaning
+pub mod Moving
+pub mod Running
+pub mod Limiting

@@ -1,0 +1,2 @@
+pub mod TreeLimits
+pub mod Laws

@@ -1,0 +1,4 @@
+pub mod Machines
+pub mod Answers
+pub mod Meanings
+pub mod Fitting

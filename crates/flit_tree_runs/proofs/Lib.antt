@@ -1,0 +1,3 @@
+mod OpenedTrees
+mod ItemCounts
+mod Works

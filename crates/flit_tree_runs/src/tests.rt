@@ -1,0 +1,5 @@
+mod agreement;
+mod examples;
+mod hostile;
+mod opening;
+mod rig;
