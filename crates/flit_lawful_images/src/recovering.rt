@@ -1,0 +1,35 @@
+ghost use Rattle.std.specs.Prelude.{◌≡◌, ◌≢◌, IfOk};
+ghost use Rattle.flit_model.specs.Maps.{Map};
+ghost use Rattle.flit_model.specs.Recovery.{IsRecovery, IsWhole, layout_of};
+ghost use Rattle.flit_lawful_images.specs.Maps.{IsMapOf, HasPairsOf};
+
+use flit_model::Image;
+use flit_recover::{Damage, Recovered, recover};
+use flit_words::NoMemory;
+use std::alloc::Global;
+
+// The error of a recovery that can have no other.
+fn memory_alone(damage: Damage) -> NoMemory
+    requires { ¬ (damage ≢ Damage.NoMemory) }
+{
+    match damage {
+        Damage::NoMemory => NoMemory,
+        _ => unreachable!(),
+    }
+}
+
+/// What an image holds that is lawful: the keys and values of its map, and the rows that no link reaches. The error is
+/// NoMemory alone.
+pub fn recover_lawful(alloc: Global, image: &Image) -> Result<Recovered, NoMemory>
+    requires whole { IsWhole image.now }
+    requires lawful { (m : Map) × IsMapOf image.now m }
+    ensures recovery { IfOk result (λ r. IsRecovery (layout_of image.now) image.now.words.items
+        r.keys.items r.values.items r.free.items) }
+    ensures pairs { IfOk result (λ r. (m : Map) → IsMapOf image.now m → HasPairsOf m r) }
+    ensures words { IfOk result (λ r. r.image.words.items ≡ image.now.words.items) }
+{
+    match recover(alloc, image) {
+        Ok(found) => Ok(found),
+        Err(damage) => Err(memory_alone(damage)),
+    }
+}
