@@ -4,6 +4,9 @@ use Rattle.std.proofs.lemmas.Bool.{cases_lt}
 use Rattle.std.specs.List.{AllByRecursion}
 use Rattle.flit_model.specs.declared.calls.Item.{Item}
 use Rattle.flit_model.specs.declared.calls.Item.TheVariants.{Call as Call_item, Evict as Evict_item}
+use Rattle.flit_model.specs.declared.calls.Outcome.{Outcome}
+use Rattle.flit_model.specs.declared.calls.Outcome.TheVariants.{Replied}
+use Rattle.flit_model.specs.declared.calls.Reply.{Reply}
 use Rattle.flit_model.specs.declared.events.Event.{Event}
 use Rattle.flit_pv.specs.declared.hands.Hand.{Hand}
 use Rattle.flit_structure.specs.declared.workers.Doing.{Doing}
@@ -14,13 +17,14 @@ use Rattle.flit_structure.proofs.Names.{all_both}
 use Rattle.flit_sched.specs.declared.runs.Turn.{Turn}
 use Rattle.flit_sched.specs.declared.runs.Turn.TheVariants.{Event as Event_turn, Idle as Idle_turn}
 use Rattle.flit_sched.specs.Runs.{Part, Run, IsPart}
-use Rattle.flit_sched.specs.Turns.{IsOut, IsTurn, Turned, Alone, no_turn, one_more, enters, entered, hand_over, over_after}
+use Rattle.flit_sched.specs.Turns.{IsOut, IsTurn, Turned, Alone, no_turn, one_more, enters, entered, hand_over, over_after, reply_in, outcomes_after}
 use Rattle.flit_histories.specs.Following.{Given, Follows}
 use Rattle.flit_sched.specs.Views.{OfWorker}
 use Rattle.flit_sched.proofs.SplitLists.{same_split}
 use Rattle.flit_sched.proofs.AloneLaws.{turn_long}
 use Rattle.flit_histories.specs.Reached.{Leads, here, turn}
 use Rattle.flit_histories.specs.TurnLaws.{IsLater, HasLater}
+use Rattle.flit_histories.proofs.ToldCalls.{set_other}
 use Rattle.flit_histories.proofs.TurnedRuns.{part_made, doing_made}
 
 -- one that stands elsewhere stays, where another takes the place of one
@@ -41,12 +45,13 @@ pub same_part : {Op : Type 0} (r : Run Op) (w : ℕ) (a b c d : List (Part Op)) 
 same_part r w a b c d p q h k = (same_split a b c d p q (sym h.is ∙ k.is) (same_place r w a b c d p q h k)).here
 
 pub later_same : {Op : Type 0} (p : Part Op) → IsLater p p
-later_same p = record { items = refl; over = omega arith; number = omega arith; out = λ o. refl }
+later_same p = record { items = refl; over = omega arith; told = λ k less. refl; number = omega arith; out = λ o. refl }
 
 pub later_joined : {Op : Type 0} (p q s : Part Op) → IsLater p q → IsLater q s → IsLater p s
 later_joined p q s h k = record {
   items = k.items ∙ h.items;
   over = (let x = h.over in let y = k.over in omega (arith, x, y));
+  told = λ i less. k.told i (let x = h.over in omega (arith, x, less)) ∙ h.told i less;
   number = (let x = h.number in let y = k.number in omega (arith, x, y));
   out = λ o. k.out (subst IsOut (sym (h.out o)) o) ∙ h.out o;
 }
@@ -69,6 +74,11 @@ module _ {Op : Type 0} (meaning : Meaning Op) where
   over_up over None = omega arith
   over_up over (Some hand) = omega arith
 
+  told_kept : (outcomes : List (Option Outcome)) (over : ℕ) (o : Option Reply) (k : ℕ) → k < over →
+      slice_get (outcomes_after meaning outcomes over o) k ≡ slice_get outcomes k
+  told_kept outcomes over None k less = refl
+  told_kept outcomes over (Some reply) k less = set_other outcomes over k (Some (Replied reply)) (λ e. omega (arith, e, less))
+
   enters_number : (u : Worker Op) (doing : Doing Op) (item : Option Item) → u.doing ≡ doing →
       ((enters meaning u doing item).number ≡ u.number)
       ⊎ (((enters meaning u doing item).number ≡ u.number + 1) × ((hand : Hand) × (u.doing ≡ Idle hand)))
@@ -89,6 +99,7 @@ module _ {Op : Type 0} (meaning : Meaning Op) where
         later = record {
           items = refl;
           over = over_up p.over (hand_over meaning (doing_made meaning r p e));
+          told = λ k less. told_kept p.outcomes p.over (reply_in meaning (doing_made meaning r p e)) k less;
           number = number_up p.worker.number (entered meaning p).number _ rises;
           out = λ o. absurd (on o);
         };

@@ -22,3 +22,5 @@ pub mod QueuedRuns
 pub mod WholeImages
 pub mod Promised
 pub mod TurnOrder
+pub mod StayingCalls
+pub mod StopCounts

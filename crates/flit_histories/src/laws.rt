@@ -1,6 +1,6 @@
 ghost use Rattle.flit_histories.specs.Laws.{RunsAreRight, CallsStandOnce, UpdatesWereWon, OrderIsKept};
 ghost use Rattle.flit_histories.specs.Promises.{TurnsKeepPromises};
-ghost use Rattle.flit_histories.specs.TurnLaws.{TurnsLead, TurnsOrderCalls};
+ghost use Rattle.flit_histories.specs.TurnLaws.{TurnsLead, HistoriesStay, TurnsOrderCalls};
 
 use flit_structure::Structure;
 
@@ -36,10 +36,16 @@ pub fn order_is_kept<S: Structure>()
 {}
 
 /// Turns that are given one after another compose and can be parted. What holds of each run that is reached holds after
-/// them: the map at the start stays, settled updates stay settled, and the workers stay, each with its items. A worker
-/// that is out stays so.
+/// them: the map at the start stays, settled updates stay settled, and the workers stay, each with its items and with the
+/// outcomes of those that are over. A worker that is out stays so.
 pub fn turns_lead<S: Structure>()
     ensures { (s : S) → TurnsLead (S.meaning s) }
+{}
+
+/// What came of a call that is over stays: each later history has of it what the history had of it then. Placed reads stay
+/// placed.
+pub fn histories_stay<S: Structure>()
+    ensures { (s : S) → HistoriesStay (S.meaning s) }
 {}
 
 /// A call that gets its reply by an earlier turn than that by which another makes its first event stands before it in

@@ -4,6 +4,6 @@
 mod laws;
 
 pub use laws::{
-    calls_stand_once, order_is_kept, runs_are_right, turns_keep_promises, turns_lead,
-    turns_order_calls, updates_were_won,
+    calls_stand_once, histories_stay, order_is_kept, runs_are_right, turns_keep_promises,
+    turns_lead, turns_order_calls, updates_were_won,
 };

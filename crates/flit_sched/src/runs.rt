@@ -157,7 +157,7 @@ impl<S: Structure> Sched<S> {
     }
 
     /// How many items of a worker aren't over.
-    fn items_left(&self, worker: u32) -> usize
+    pub fn items_left(&self, worker: u32) -> usize
         requires { HasWorker self.now.run worker }
         ensures { result ≡ left_at self.now.run worker }
     {

@@ -3,6 +3,7 @@ use Rattle.flit_histories.proofs.LedParts.{part_led, follows_joined, follows_led
 use Rattle.flit_histories.proofs.ReachedRuns.{sound}
 use Rattle.flit_histories.proofs.SinceRuns.{settled_led}
 use Rattle.flit_histories.proofs.ToldRuns.{told_all}
+use Rattle.flit_histories.proofs.StopCounts.{left_led}
 use Rattle.flit_histories.proofs.laws.turns_lead.Goals as goal
 
 pub returns : goal.returns
@@ -21,6 +22,7 @@ returns g c = λ s.
           settled_led meaning laws r (sound meaning laws r h) (told_all meaning laws r h) next (follows_led meaning r r next ts f here);
       long = follows_long meaning;
       workers = λ r next ts worker a p b f is. part_led meaning r next (follows_led meaning r r next ts f here) worker a p b is;
+      stops = left_led meaning;
       out = out_follows meaning;
       idle = idle_out meaning;
     }

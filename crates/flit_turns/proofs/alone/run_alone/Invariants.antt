@@ -1,0 +1,16 @@
+use Rattle.std.proofs.Common.{◌≡◌, ℕ, length}
+use Rattle.flit_sched.specs.Turns.{left_at}
+use Rattle.flit_turns.specs.Lines.{ShowsSome}
+use Rattle.flit_turns.proofs.alone.run_alone.Given as goal
+
+abbrev pub invariant-items : goal.invariant-items
+invariant-items g l = record {
+  made : (made : ℕ) × ShowsSome (g.S.Structure.meaning l.fn.sched.structure) l.worker made l.fn.sched.run l.sched.run l.fn.events.kept
+      l.fn.events.shown.items l.events.shown.items;
+  structure : l.sched.structure ≡ l.fn.sched.structure;
+  kept : l.events.kept ≡ l.fn.events.kept;
+  long : length l.sched.run.parts ≡ length l.fn.sched.run.parts;
+}
+
+abbrev pub decreases-items : goal.decreases-items
+decreases-items g l = left_at l.sched.run l.worker
