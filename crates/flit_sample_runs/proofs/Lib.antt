@@ -1,4 +1,3 @@
 pub mod OpenedRuns
 pub mod ItemCounts
 pub mod OrderLaws
-pub mod Rights

@@ -8,10 +8,6 @@ mod tests;
 #[cfg(test)]
 mod word_tests;
 mod words;
-#[cfg(test)]
-mod worker_tests;
-#[cfg(test)]
-mod working;
 
 pub use opening::open_sample;
 pub use ordering::run_in_order;

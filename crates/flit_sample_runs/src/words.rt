@@ -5,7 +5,7 @@ ghost use Rattle.flit_place.specs.Tags.{IsSlot};
 ghost use Rattle.flit_model.specs.Recovery.{IsRecovery};
 ghost use Rattle.flit_one_key.specs.Steps.{IsSmall, key_word, links_none};
 ghost use Rattle.flit_sample.specs.Sampling.{sample};
-ghost use Rattle.flit_table.specs.Passes.{MayWork, own_names, own_calls};
+ghost use Rattle.flit_table.specs.Passes.{MayWork, IsFirst, own_names, own_calls};
 
 use flit_place::Placement;
 use flit_recover::Recovered;
@@ -33,6 +33,8 @@ pub fn open_words<P: Placement + Drop>(
         IsSlot (P.place place).counted layout.slots ((P.place place).slot word) }
     ensures works { IfOk result (λ r. MayWork (sample P.place) r.0 r.1) }
     ensures first { IfOk result (λ r. (own_names r.1 ≡ layout.workers) × (own_calls r.1 ≡ 0)) }
+    ensures opening { IfOk result (λ r. IsFirst (sample P.place r.0.origin.structure.value)
+        r.0.origin r.1) }
     ensures layout { IfOk result (λ r. r.0.origin.structure.value.layout ≡ layout) }
 {
     recovered_opens();

@@ -199,6 +199,8 @@ module _ {S Op : Type 0} (meaning : Meaning Op) (laws : Lawful meaning) (o : Ori
         continues = here.begins;
         among = here_among;
         sees = saying.seen_first meaning laws o m log a b v k;
+        items = here.items;
+        reads = here.reads;
         right = here.right;
         history = saying.history_legal meaning laws o m log a b v k;
         accounts = here.accounts;

@@ -26,7 +26,7 @@ use Rattle.flit_table.specs.declared.views.Origin.{Origin}
 use Rattle.flit_table.specs.declared.views.View.{View}
 use Rattle.flit_table.specs.Logs.{Continues, progress_of, settled_in}
 use Rattle.flit_table.specs.Orders.{StandInOrder, AreInOrder}
-use Rattle.flit_table.specs.Views.{content_of, answered, workers_of, posts_of, names_of, updates_seen, history_seen}
+use Rattle.flit_table.specs.Views.{content_of, name_of, answered, reads_in, HasName, workers_of, posts_of, used_of, names_of, updates_seen, history_seen}
 use Rattle.flit_table.specs.Rule.{Account, moment_of, IsWithinBounds}
 
 -- the words of which an image takes the value ahead
@@ -105,6 +105,9 @@ module _ {S Op : Type 0} (meaning : Meaning Op) where
     pub among : (u : Worker Op) → IsAmong (workers_of (posts_of v)) u → IsAmong workers u
     -- what the pass has seen begins it, and is legal with its reads; its names have their accounts
     pub sees : (more : List Entry) × (settled_in log ≡ updates_seen v ++ more)
+    -- with its reads, which are the completed reads among its items; and each item is under one of its names
+    pub items : AllByRecursion (λ x. HasName (name_of x) (used_of v)) v.mine
+    pub reads : map (λ r. r.entry) v.placed ≡ reads_in v.mine
     pub right : AllByRecursion (IsRightAt (content_of o) (updates_seen v)) v.placed
     pub history : IsLegal (content_of o) (history_seen v)
     pub accounts : AllByRecursion (λ p. Account (settled_in log) v.mine p.worker) (posts_of v)
