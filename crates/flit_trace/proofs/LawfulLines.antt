@@ -1,4 +1,4 @@
--- The laws of the call and evict lines.
+-- The laws of the call, evict and turn lines.
 use Rattle.std.proofs.Common.{◌≡◌, ℕ, suc, ◌≤◌, ◌==◌, Bool, true, false, cond, List, [], ◌∷◌, map, filter, length, Contains, inl, inr, refl, sym, ap, ◌∙◌, subst, lit≤, arith}
 use Rattle.std.specs.List.{AllByRecursion}
 use Rattle.std.proofs.lemmas.Bool.{eqb-true, eq-eqb}
@@ -11,9 +11,9 @@ use Rattle.flit_model.proofs.Rising.{rising-lower}
 use Rattle.flit_trace.specs.Contents.{ItemLine, Content, script_of}
 use Rattle.flit_trace.specs.Drafts.{IsPlace}
 use Rattle.flit_trace.specs.Grammar.{Reading, beginning, IsLine, IsReadFrom, IsTrace}
-use Rattle.flit_trace.specs.Rights.{IsRightLine, lines_of_items, lines_of_script}
+use Rattle.flit_trace.specs.Rights.{IsRightLine, IsRightTurn, lines_of_items, lines_of_script}
 use Rattle.flit_trace.proofs.GoodReadings.{IsGood, line_good, beginning_good, read_good}
-use Rattle.flit_trace.proofs.RightLines.{AreRightSoFar, goes-right, AreBefore, none_more, told-before}
+use Rattle.flit_trace.proofs.RightLines.{AreRightSoFar, AreTurnsSoFar, goes-right, goes-turns, AreBefore, none_more, told-before}
 use Rattle.flit_trace.proofs.Places.{head_accepted}
 
 line_right : (n : ℕ) (r : Reading) (line : List ℕ) (q : Reading) → IsLine n r line q → IsGood r → AreRightSoFar r.draft r.told.items →
@@ -29,6 +29,20 @@ read_right : (n : ℕ) (r : Reading) (lines : List (List ℕ)) (q : Reading) →
 read_right n r [] q read g a = subst (λ (x : Reading). AreRightSoFar x.draft x.told.items) (sym read) a
 read_right n r (line ∷ lines) q read g a =
     read_right (suc n) read.0 lines q read.2 (line_good n r line read.0 read.1 g) (line_right n r line read.0 read.1 g a)
+
+line_turns : (n : ℕ) (r : Reading) (line : List ℕ) (q : Reading) → IsLine n r line q → IsGood r → AreTurnsSoFar r.draft r.told.turns →
+    AreTurnsSoFar q.draft q.told.turns
+line_turns n r line q step g a =
+    elim step.1 [
+      | inl silent ↦ subst (λ (x : Reading). AreTurnsSoFar x.draft x.told.turns) (sym silent.1) a
+      | inr says ↦ rw says.told (goes-turns n r.draft q.draft says.sentence r.told g.sound a says.goes)
+    ]
+
+read_turns : (n : ℕ) (r : Reading) (lines : List (List ℕ)) (q : Reading) → IsReadFrom n r lines q → IsGood r → AreTurnsSoFar r.draft r.told.turns →
+    AreTurnsSoFar q.draft q.told.turns
+read_turns n r [] q read g a = subst (λ (x : Reading). AreTurnsSoFar x.draft x.told.turns) (sym read) a
+read_turns n r (line ∷ lines) q read g a =
+    read_turns (suc n) read.0 lines q read.2 (line_good n r line read.0 read.1 g) (line_turns n r line read.0 read.1 g a)
 
 line_before : (n : ℕ) (r : Reading) (line : List ℕ) (q : Reading) → IsLine n r line q → AreBefore n r.told.items → AreBefore (suc n) q.told.items
 line_before n r line q step b =
@@ -57,6 +71,11 @@ few bytes c t = let g = good bytes c t in rw t.is (omega (arith, g.counted.lines
 pub right : (bytes : List ℕ) (c : Content) → IsTrace bytes c → AllByRecursion (IsRightLine c.head.layout) c.items
 right bytes c t =
     let a = read_right 1 beginning (lines_of bytes) t.last t.read beginning_good (record { none = λ _. refl; right = tt }) in
+    rw t.is a.right
+
+pub turns : (bytes : List ℕ) (c : Content) → IsTrace bytes c → AllByRecursion (IsRightTurn c.head.layout) c.turns
+turns bytes c t =
+    let a = read_turns 1 beginning (lines_of bytes) t.last t.read beginning_good (record { none = λ _. refl; right = tt }) in
     rw t.is a.right
 
 pub rising : (bytes : List ℕ) (c : Content) → IsTrace bytes c → IsRisingFrom 1 (lines_of_items c.items)

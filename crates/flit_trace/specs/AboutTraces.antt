@@ -9,7 +9,7 @@ use Rattle.flit_model.specs.declared.calls.Item.{Item}
 use Rattle.flit_trace.specs.declared.faults.TraceError.{TraceError}
 use Rattle.flit_trace.specs.Contents.{Content, ItemLine, filled, script_of}
 use Rattle.flit_trace.specs.Grammar.{IsTrace, IsTraceFault}
-use Rattle.flit_trace.specs.Rights.{IsRightLine, lines_of_items, lines_of_script}
+use Rattle.flit_trace.specs.Rights.{IsRightLine, IsRightTurn, lines_of_items, lines_of_script}
 use Rattle.flit_trace.specs.declared.faults.TraceError.TheVariants.{Limit}
 use Rattle.flit_trace.specs.declared.faults.Bound.TheVariants.{Events}
 
@@ -42,6 +42,12 @@ abbrev pub LinesRight : Type 0
 LinesRight =
     (bytes : List ℕ) (c : Content) → IsTrace bytes c →
     AllByRecursion (IsRightLine c.head.layout) c.items
+
+-- each turn line names one of its workers
+abbrev pub TurnsRight : Type 0
+TurnsRight =
+    (bytes : List ℕ) (c : Content) → IsTrace bytes c →
+    AllByRecursion (IsRightTurn c.head.layout) c.turns
 
 -- the line numbers of the call and evict lines rise
 abbrev pub LinesRise : Type 0

@@ -1,4 +1,4 @@
--- What is so of the call and evict lines of a trace.
+-- What is so of the call, evict and turn lines of a trace.
 use Rattle.std.specs.Prelude.{◌≡◌, ℕ, ◌<◌, ◌≤◌, true, false, List, map}
 use Rattle.flit_words.specs.declared.layouts.Layout.{Layout}
 use Rattle.flit_words.specs.Layouts.{words_of}
@@ -23,6 +23,10 @@ IsRightItem l (item.Evict word) = word < words_of l
 
 abbrev pub IsRightLine : Layout → ItemLine → Type 0
 IsRightLine l i = (1 ≤ i.worker) × (i.worker ≤ l.workers) × IsRightItem l i.item
+
+-- a turn line names one of the workers
+abbrev pub IsRightTurn : Layout → ℕ × ℕ → Type 0
+IsRightTurn l t = (1 ≤ t.0) × (t.0 ≤ l.workers)
 
 -- the numbers of lines, and of the lines of a script
 abbrev pub lines_of_items : List ItemLine → List ℕ

@@ -23,61 +23,71 @@ pub(crate) enum Stage {
 }
 
 impl Stage {
-    pub fn takes_version(self) -> bool
+    /// Whether the line that tells the version may come next.
+    pub(crate) fn takes_version(self) -> bool
         ensures { result ≡ takes_version self }
     {
         matches!(self, Stage::AtVersion)
     }
 
-    pub fn takes_structure(self) -> bool
+    /// Whether the line that tells the structure may come next.
+    pub(crate) fn takes_structure(self) -> bool
         ensures { result ≡ takes_structure self }
     {
         matches!(self, Stage::AtStructure)
     }
 
-    pub fn takes_place(self) -> bool
+    /// Whether `place` may come next.
+    pub(crate) fn takes_place(self) -> bool
         ensures { result ≡ takes_place self }
     {
         matches!(self, Stage::AtPlace)
     }
 
-    pub fn takes_rows(self) -> bool
+    /// Whether `rows` may come next; it may where `place` may, which can be left out.
+    pub(crate) fn takes_rows(self) -> bool
         ensures { result ≡ takes_rows self }
     {
         matches!(self, Stage::AtPlace | Stage::AtRows)
     }
 
-    pub fn takes_workers(self) -> bool
+    /// Whether `workers` may come next.
+    pub(crate) fn takes_workers(self) -> bool
         ensures { result ≡ takes_workers self }
     {
         matches!(self, Stage::AtWorkers)
     }
 
-    pub fn takes_versions(self) -> bool
+    /// Whether `versions` may come next.
+    pub(crate) fn takes_versions(self) -> bool
         ensures { result ≡ takes_versions self }
     {
         matches!(self, Stage::AtVersions)
     }
 
-    pub fn takes_start(self) -> bool
+    /// Whether a start block may come next; it may where `versions` may, which can be left out.
+    pub(crate) fn takes_start(self) -> bool
         ensures { result ≡ takes_start self }
     {
         matches!(self, Stage::AtVersions | Stage::AtStart)
     }
 
-    pub fn is_in_block(self) -> bool
+    /// Whether a start block is open.
+    pub(crate) fn is_in_block(self) -> bool
         ensures { result ≡ is_in_block self }
     {
         matches!(self, Stage::InBlock)
     }
 
-    pub fn takes_body(self) -> bool
+    /// Whether a line of the body may come next; what comes before it and is missing was left out.
+    pub(crate) fn takes_body(self) -> bool
         ensures { result ≡ takes_body self }
     {
         matches!(self, Stage::AtVersions | Stage::AtStart | Stage::InBody)
     }
 
-    pub fn is_ended(self) -> bool
+    /// Whether `end` has been read.
+    pub(crate) fn is_ended(self) -> bool
         ensures { result ≡ is_ended self }
     {
         matches!(self, Stage::Ended)

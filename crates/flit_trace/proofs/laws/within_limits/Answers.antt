@@ -1,4 +1,4 @@
-use Rattle.flit_trace.proofs.LawfulLines.{accepted, placed, few, right}
+use Rattle.flit_trace.proofs.LawfulLines.{accepted, placed, few, right, turns}
 use Rattle.flit_trace.proofs.laws.within_limits.Goals as goal
 
 pub returns-clause-accepted : goal.returns-clause-accepted
@@ -12,3 +12,6 @@ returns-clause-few c = few
 
 pub returns-clause-right : goal.returns-clause-right
 returns-clause-right c = right
+
+pub returns-clause-turns : goal.returns-clause-turns
+returns-clause-turns c = turns

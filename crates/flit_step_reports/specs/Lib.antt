@@ -1,0 +1,2 @@
+pub mod StepReports
+pub mod StepLaws

@@ -1,0 +1,9 @@
+pub mod WorkLaws
+pub mod PlayLaws
+pub mod OpenedLaws
+pub mod TellingLaws
+pub mod ReportLaws
+pub mod ToldLaws
+pub mod HeldScripts
+pub mod MergedLines
+pub mod OrderedLines

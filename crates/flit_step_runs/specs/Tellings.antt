@@ -1,0 +1,24 @@
+-- What is told of the lines of a trace, each with its number.
+use Rattle.std.specs.Prelude.{◌≡◌, ℕ, ◌+◌, ◌≤◌, List, [], ◌∷◌, ◌++◌, map, length}
+use Rattle.flit_words.specs.declared.limits.TheConstants.{MOST_CALLS}
+use Rattle.flit_model.specs.declared.calls.Item.{Item}
+use Rattle.flit_report.specs.declared.content.Line.{Line}
+use Rattle.flit_trace.specs.SeenTraces.{SeenTrace, IsWorker, script_at}
+use Rattle.flit_sched.specs.Runs.{Run}
+use Rattle.flit_sched.specs.Views.{OfWorker}
+use Rattle.flit_step_reports.specs.StepReports.{told_item}
+
+-- what is told of a line of a worker that has so many before it
+abbrev pub numbered_item : {Op : Type 0} → Run Op → ℕ → ℕ → ℕ → Item → List (ℕ × Line)
+numbered_item r number worker before item = map (λ l. (number, l)) (told_item r worker before item)
+
+-- what is told of the lines of a worker, so many of which were before them
+abbrev pub numbered_script : {Op : Type 0} → Run Op → ℕ → ℕ → List (ℕ × Item) → List (ℕ × Line)
+numbered_script r worker before [] = []
+numbered_script r worker before (l ∷ ls) = numbered_item r l.0 worker before l.1 ++ numbered_script r worker (before + 1) ls
+
+-- the workers of the run are those of the trace, each has as many items as its script, and these are within the limit
+pub record HoldsScripts {Op : Type 0} (trace : SeenTrace) (r : Run Op) : Type 0 where
+  pub long : length r.parts ≡ trace.head.layout.workers
+  pub items : (worker : ℕ) → IsWorker trace worker → OfWorker r worker (λ p. length p.items ≡ length (script_at trace worker))
+  pub few : (worker : ℕ) → IsWorker trace worker → length (script_at trace worker) ≤ MOST_CALLS

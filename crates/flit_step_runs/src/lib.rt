@@ -1,0 +1,16 @@
+//! Plays a trace on any structure, and makes the report that the command `step` is to tell of it.
+#![tactic(auto)]
+
+mod lines;
+mod opened;
+mod playing;
+mod reports;
+mod telling;
+mod works;
+
+pub use lines::lines_of;
+pub use opened::run_of;
+pub use playing::play;
+pub use reports::report_of_run;
+pub use telling::tell;
+pub use works::works_of;

@@ -1,0 +1,34 @@
+ghost use Rattle.std.specs.Prelude.{◌≡◌, IfOk};
+ghost use Rattle.flit_trace.specs.Contents.{Content};
+ghost use Rattle.flit_trace.specs.SeenTraces.{Shows};
+ghost use Rattle.flit_step_runs.specs.Plays.{CanPlay, CanPlaySeen, IsPlayed};
+
+use crate::playing::play;
+use crate::works::works_of;
+use flit_recover::Recovered;
+use flit_sched::Sched;
+use flit_structure::Structure;
+use flit_trace::Trace;
+use flit_turns::Events;
+use flit_words::NoMemory;
+use std::alloc::Global;
+
+/// Opens a run of a trace's works at what recovery found, and plays the trace on it. The error is NoMemory alone.
+pub fn run_of<S: Structure>(
+    alloc: Global,
+    structure: S,
+    start: &Recovered,
+    trace: &Trace,
+    events: &mut Events,
+) -> Result<Sched<S>, NoMemory>
+    requires { CanPlaySeen (S.meaning structure) start.now trace.now }
+    ensures structure { IfOk result (λ r. r.structure ≡ structure) }
+    ensures played { IfOk result (λ r. (t : Content) → Shows trace.now t →
+        CanPlay (S.meaning structure) start.now t → IsPlayed (S.meaning structure) t start.now
+        events.old.kept r.run events.old.shown.items events.new.shown.items) }
+{
+    let works = works_of(alloc, trace)?;
+    let mut sched = Sched::open(alloc, structure, start, works)?;
+    play(&mut sched, trace, events)?;
+    Ok(sched)
+}

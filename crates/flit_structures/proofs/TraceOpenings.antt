@@ -1,0 +1,40 @@
+-- The structure that a trace names opens where the trace starts.
+use Rattle.std.proofs.Common.{◌≡◌, ℕ, ◌<◌, List, refl}
+use Rattle.flit_words.specs.declared.layouts.Kind.{Kind}
+use Rattle.flit_words.specs.declared.layouts.Kind.TheVariants.{List as List_kind, Hash, Tree}
+use Rattle.flit_words.specs.declared.layouts.Layout.{Layout}
+use Rattle.flit_words.specs.Layouts.{words_of}
+use Rattle.flit_model.specs.declared.calls.Work.{Work}
+use Rattle.flit_model.specs.declared.found.Recovered.{Recovered}
+use Rattle.flit_model.specs.Recovery.{SameShape}
+use Rattle.flit_place.specs.Tags.{Place, IsSlot}
+use Rattle.flit_structure.specs.Lawful.{IsOpening}
+use Rattle.flit_sched.specs.Openings.{opening_at, IsBookOf, AreRight}
+use Rattle.flit_histories.specs.Reached.{IsStart}
+use Rattle.flit_structures.specs.Structures.{structure_of}
+
+-- a structure of each kind opens
+pub opens : (kind : Kind) (l : Layout) (p : Place) (start : Recovered) (works : List Work) → IsOpening l (opening_at start) → IsBookOf start →
+    ((word : ℕ) → word < words_of l → IsSlot p.counted l.slots (p.slot word)) → AreRight l works →
+    IsStart (structure_of l p kind start.free.items).meaning start works
+opens List_kind l p start works opening book slots right = record {
+  opens = record { lawful = opening; pool = refl; slots = slots };
+  found = book;
+  right = right;
+}
+opens Hash l p start works opening book slots right = record {
+  opens = record { lawful = opening; pool = refl; slots = slots };
+  found = book;
+  right = right;
+}
+opens Tree l p start works opening book slots right = record {
+  opens = record { lawful = opening; pool = refl; slots = slots };
+  found = book;
+  right = right;
+}
+
+-- it has the words of its layout
+pub shape : (kind : Kind) (l : Layout) (p : Place) (free : List ℕ) → SameShape l (structure_of l p kind free).meaning.layout
+shape List_kind l p free = record { kind = refl; buckets = refl; rows = refl; values = refl }
+shape Hash l p free = record { kind = refl; buckets = refl; rows = refl; values = refl }
+shape Tree l p free = record { kind = refl; buckets = refl; rows = refl; values = refl }

@@ -1,0 +1,4 @@
+pub mod Structures
+pub mod Starts
+pub mod Openings
+pub mod Reports

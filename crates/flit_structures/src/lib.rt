@@ -1,0 +1,10 @@
+//! The structure that a trace names, where it starts, and that it opens there and the trace can be played.
+#![tactic(auto)]
+
+mod laws;
+mod reports;
+mod starts;
+
+pub use laws::{traces_open, traces_play};
+pub use reports::{Wanted, report};
+pub use starts::start_of;
