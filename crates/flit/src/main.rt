@@ -2,7 +2,7 @@
 //! standard error why a command did not end well.
 #![tactic(auto)]
 
-use flit_cli::{Status, StdSink, StdSource, Words, flit_make, flit_recover, flit_step};
+use flit_cli::{Status, StdSink, StdSource, Words, fault_line};
 use std::process::ExitCode;
 use std::rt::Env;
 use std::{env, io};
@@ -15,12 +15,12 @@ fn words_of(rt: &(impl Env + AllocGlobal)) -> Result<Words, Status> {
     })?;
     let mut words = Words::new(rt.alloc());
     for word in given.skip(1) {
-        words.push(word.as_str()).map_err(|_| Status::NoMemory)?;
+        words.push(word.as_str())?;
     }
     Ok(words)
 }
 
-/// Runs the command that the words name. A command that they don't name reads nothing.
+/// Runs the command that the words name, from standard input to standard output.
 fn run(rt: &(impl Env + Input + Print + AllocGlobal)) -> Status {
     let words = match words_of(rt) {
         Ok(words) => words,
@@ -28,20 +28,13 @@ fn run(rt: &(impl Env + Input + Print + AllocGlobal)) -> Status {
     };
     let mut source = StdSource::new(rt.reader());
     let mut sink = StdSink::new(io::writer(rt));
-    let mut status = flit_step(rt.alloc(), &words, &mut source, &mut sink);
-    if status == Status::Usage {
-        status = flit_recover(rt.alloc(), &words, &mut source, &mut sink);
-    }
-    if status == Status::Usage {
-        status = flit_make(rt.alloc(), &words, &mut source, &mut sink);
-    }
-    status
+    flit_cli::flit(rt.alloc(), &words, &mut source, &mut sink)
 }
 
 fn main(rt: HostRuntime) -> ExitCode {
     let status = run(&rt);
-    if status != Status::Done {
-        let _ = eprintln!(rt; "flit: {status}");
+    if let Some(line) = fault_line(status) {
+        let _ = eprintln!(rt; "{line}");
     }
     ExitCode::from(status.code())
 }

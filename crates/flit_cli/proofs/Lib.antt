@@ -1,3 +1,1 @@
-pub mod PlayLaws
-pub mod StepLaws
-pub mod PlainLaws
+pub mod DispatchLaws

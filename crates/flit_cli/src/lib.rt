@@ -1,17 +1,14 @@
-//! The commands, from the bytes that are read to the bytes that are written.
+//! The commands: one call that runs the command which the words name.
 #![tactic(auto)]
 
-mod make;
-mod plain;
-mod plays;
-mod recover;
-mod status;
-mod step;
+mod dispatch;
+#[cfg(test)]
+mod tests;
 
+pub use dispatch::flit;
 pub use flit_commands::Words;
+pub use flit_make_command::flit_make;
 pub use flit_outside::{Failed, MemSink, MemSource, Sink, Source, StdSink, StdSource};
-pub use make::flit_make;
-pub use plays::plays_are_legal;
-pub use recover::flit_recover;
-pub use status::{ImageFault, Status};
-pub use step::flit_step;
+pub use flit_recover_command::flit_recover;
+pub use flit_statuses::{FaultLine, ImageFault, Status, fault_line};
+pub use flit_step_command::{flit_step, plays_are_legal};

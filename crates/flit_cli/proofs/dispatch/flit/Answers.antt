@@ -1,0 +1,15 @@
+use Rattle.std.proofs.Common.{refl}
+use Rattle.flit_cli.proofs.DispatchLaws.{of_found, of_none, usage_found}
+use Rattle.flit_cli.proofs.dispatch.flit.Goals as goal
+
+pub returns-in-Some-clause-usage : goal.returns-in-Some-clause-usage
+returns-in-Some-clause-usage g c = usage_found _ _ _ c.in-Some.ensures.some.0 c.in-Some.ensures.some.1 c.run_command.ensures.usage
+
+pub returns-in-Some-clause-blames : goal.returns-in-Some-clause-blames
+returns-in-Some-clause-blames g c = of_found _ _ _ c.in-Some.ensures.some.0 c.in-Some.ensures.some.1 c.run_command.ensures.blames
+
+pub returns-in-Some-clause-leaves : goal.returns-in-Some-clause-leaves
+returns-in-Some-clause-leaves g c = of_found _ _ _ c.in-Some.ensures.some.0 c.in-Some.ensures.some.1 c.run_command.ensures.leaves
+
+pub returns-in-Some-clause-wrote : goal.returns-in-Some-clause-wrote
+returns-in-Some-clause-wrote g c = of_found _ _ _ c.in-Some.ensures.some.0 c.in-Some.ensures.some.1 c.run_command.ensures.wrote

@@ -1,0 +1,6 @@
+pub mod Answers
+pub mod Errors
+pub mod FaultLines
+pub mod Reading
+pub mod Statuses
+pub mod Writing
