@@ -1,2 +1,5 @@
 pub mod AloneLaws
+pub mod FoundLaws
 pub mod FreshOpens
+pub mod ListOpens
+pub mod TreeOpens

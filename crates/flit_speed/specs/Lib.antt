@@ -1,1 +1,3 @@
 pub mod Benches
+pub mod Searches
+pub mod TreeSearches

@@ -34,7 +34,7 @@ fn answer<S: Structure>(
 }
 
 /// Makes the same call again and again.
-fn answers<S: Structure>(
+pub(crate) fn answers<S: Structure>(
     running: &Running<S>,
     pass: &mut Pass<S>,
     call: Call,
