@@ -2,3 +2,4 @@ pub mod Structures
 pub mod Starts
 pub mod Openings
 pub mod Reports
+pub mod Texts

@@ -4,7 +4,9 @@
 mod laws;
 mod reports;
 mod starts;
+mod texts;
 
 pub use laws::{traces_open, traces_play};
 pub use reports::{Wanted, report};
 pub use starts::start_of;
+pub use texts::{NoText, text_of_trace};
