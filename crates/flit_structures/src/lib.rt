@@ -4,6 +4,8 @@
 mod laws;
 mod reports;
 mod starts;
+#[cfg(test)]
+mod tests;
 mod texts;
 
 pub use laws::{traces_open, traces_play};
