@@ -23,12 +23,13 @@ use Rattle.flit_table.specs.declared.views.View.{View}
 use Rattle.flit_table.specs.Logs.{settled_in}
 use Rattle.flit_table.specs.Views.{HasName, name_of, used_of, posts_of, all_workers, updates_seen}
 use Rattle.flit_structure.proofs.Names.{all_map}
-use Rattle.flit_table.specs.Moves.{entered, MayEnter, entering}
+use Rattle.flit_table.specs.Moves.{entered, MayEnter, HasNoneQueued, entering}
 use Rattle.flit_table.specs.Rule.{Account, moment_of, IsLicensed, Agrees, HasWhole, Kept}
 use Rattle.flit_table.specs.Orders.{IsOneMore, StandBy}
 use Rattle.flit_table.proofs.Standing.{stand_at}
 use Rattle.flit_table.proofs.LogLaws.{continues_same}
 use Rattle.flit_table.proofs.ViewWorkers.{rest_of, posts_head}
+use Rattle.flit_table.proofs.Unqueued.{enters_unqueued}
 use Rattle.flit_table.proofs.Changes as changes
 
 -- the whole log stays with some view
@@ -148,8 +149,9 @@ module _ {S Op : Type 0} (meaning : Meaning Op) (laws : Lawful meaning) (o : Ori
 
     pub post_kept : changes.IsChange meaning laws o v.post.worker.name before later →
         (Account (settled_in log) v.mine v.post.worker → Account (settled_in log) v.mine q.worker) → IsLicensed meaning later q →
+        (HasNoneQueued meaning v.post → HasNoneQueued meaning q) →
         (StandBy meaning (updates_seen v) v.mine v.placed v.post.worker → StandBy meaning (updates_seen v) v.mine v.placed q.worker) → Kept meaning o m log (a ++ w ∷ b)
-    post_kept c account licence standing =
+    post_kept c account licence unqueued standing =
         let x : Agrees meaning o log before v = changes.agrees_was meaning laws o m m log log a b v w (rest_of v) old new k in
         let others = changes.rest_others meaning laws o m m log log a b v w (rest_of v) old new k in
         let accounts : AllByRecursion (λ p. Account (settled_in log) v.mine p.worker) (v.post ∷ rest_of v) =
@@ -167,6 +169,8 @@ module _ {S Op : Type 0} (meaning : Meaning Op) (laws : Lawful meaning) (o : Ori
           accounts = subst (AllByRecursion (λ p. Account (settled_in log) v.mine p.worker)) (sym new) (account accounts.0, accounts.1);
           licensed = subst (AllByRecursion (IsLicensed meaning later)) (sym new)
               (licence, changes.licences_on meaning laws o v.post.worker.name before later c (rest_of v) others licences.1);
+          queued = λ one. (let h = subst (AllByRecursion (HasNoneQueued meaning)) old (x.queued one) in
+              subst (AllByRecursion (HasNoneQueued meaning)) (sym new) (unqueued h.0, h.1));
           stand = subst (AllByRecursion (λ p. StandBy meaning (updates_seen v) v.mine v.placed p.worker)) (sym new) (standing stands.0, stands.1);
           settled = x.settled;
           reads = x.reads;
@@ -199,6 +203,7 @@ module _ {S Op : Type 0} (meaning : Meaning Op) (laws : Lawful meaning) (o : Ori
       holds)
       (call_accounts A B p.worker.name p.worker.number call (settled_in log) v.mine p.worker.doing may.0 may.1)
       (call_licensed A B p.worker.name p.worker.number call p.worker.doing may.0 may.1 may.2 holds)
+      (λ h. enters_unqueued meaning laws (moment_of o m log []) A B p holds h (Begin call) may)
       (stand_at meaning (updates_seen v) v.mine v.placed p.worker.name p.worker.number q.worker.number p.worker.doing q.worker.doing
       (λ n low d. not_replied call p.worker.doing may.0 may.1 may.2))
   begins_kept (Sweep word) a b v some may k =
@@ -214,4 +219,5 @@ module _ {S Op : Type 0} (meaning : Meaning Op) (laws : Lawful meaning) (o : Ori
       may.2) holds)
       (evict_accounts A B p.worker.name p.worker.number word (settled_in log) v.mine p.worker.doing may.0 may.1)
       tt
+      (λ h. enters_unqueued meaning laws (moment_of o m log []) A B p holds h (Sweep word) may)
       (stand_at meaning (updates_seen v) v.mine v.placed p.worker.name p.worker.number q.worker.number p.worker.doing q.worker.doing (λ n low d. tt))

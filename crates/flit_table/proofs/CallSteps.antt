@@ -21,7 +21,7 @@ use Rattle.flit_table.specs.declared.views.Start.TheVariants.{Go, Begin}
 use Rattle.flit_table.specs.declared.views.View.{View}
 use Rattle.flit_table.specs.Logs.{progress_of, settled_in, Continues, logged_by}
 use Rattle.flit_table.specs.Views.{content_of, reads_in, updates_seen}
-use Rattle.flit_table.specs.Moves.{tried_after, first_in, call_over, rests_after_call, over, over_at, rests, MayEnter, entering}
+use Rattle.flit_table.specs.Moves.{tried_after, first_in, call_over, rests_after_call, over, over_at, rests, tally_in, MayEnter, EntersUnqueued, entering}
 use Rattle.flit_table.specs.Steps.{IsTold, IsRepliedIn, IsTrying, Stepped, After, Belongs, Home}
 use Rattle.atomic_table.specs.declared.shared.Seat.{Seat}
 use Rattle.flit_table.specs.Calls.{Comes, at_first, further, IsSamePass, Runs, Ends, IsUnderWayAt}
@@ -46,9 +46,9 @@ asks_nothing (Some e) said reply is = absurd (cc)
 
 module _ {S Op : Type 0} (meaning : Meaning Op) (laws : Lawful meaning) (o : Origin S) where
   -- the view as the call begins
-  pub begins_runs : (call : Call) (v : View S Op) → MayEnter meaning (Begin call) v.post →
+  pub begins_runs : (call : Call) (v : View S Op) → MayEnter meaning (Begin call) v.post → (meaning.layout.workers ≡ 1 → EntersUnqueued meaning v.post) →
       Runs meaning o call v (entering meaning (Begin call) v) (meaning.begun (hand_of meaning v.post.worker) call) 0
-  begins_runs call v may =
+  begins_runs call v may unqueued =
       let hand = hand_of meaning v.post.worker in
       let same : may.0 ≡ hand = sym (ap (hand_in meaning) may.1) in
       let first = laws.awake hand call (subst (λ h. MayStart meaning.layout h call) same may.2) in
@@ -65,6 +65,7 @@ module _ {S Op : Type 0} (meaning : Meaning Op) (laws : Lawful meaning) (o : Ori
         late = le_refl _;
         order = λ some. absurd (omega (arith, some));
         unreplied = asks_still (meaning.asked (meaning.begun hand call)) (meaning.reply (meaning.begun hand call)) first.0 first.1;
+        queued = λ one. unqueued one (Begin call) may;
         within = λ e asked. subst (IsWithin meaning.layout) (same_some first.0 e (sym first.1 ∙ asked)) first.2;
       }
     where
@@ -158,6 +159,9 @@ module _ {S Op : Type 0} (meaning : Meaning Op) (laws : Lawful meaning) (o : Ori
     no_reads [] h = refl
     no_reads (x ∷ reads) h = absurd (cc)
 
+    queued_now : meaning.layout.workers ≡ 1 → (tally meaning next).queued ≡ 0
+    queued_now one = subst (λ (u : Worker Op). (tally_in meaning u.doing).queued ≡ 0) moved_worker (st.queued one).0
+
     pub goes_further : replied meaning next ≡ None → Runs meaning o call v w next (k + 1)
     goes_further none = record {
       begun = Some begun;
@@ -172,6 +176,7 @@ module _ {S Op : Type 0} (meaning : Meaning Op) (laws : Lawful meaning) (o : Ori
       late = late_of r.begun r.late;
       order = λ some. st.order;
       unreplied = none;
+      queued = queued_now;
       within = λ d asks. st.within d (ap (λ (u : Worker Op). asked_by meaning u) moved_worker ∙ asks);
     }
 
@@ -229,6 +234,8 @@ module _ {S Op : Type 0} (meaning : Meaning Op) (laws : Lawful meaning) (o : Ori
           state = rep.0;
           bounded = subst (λ es. IsBounded meaning.layout meaning.room rep.0 es reply) seen rep.1.bounded;
           trying = trying_at reply is;
+          queued = queued_now;
+          next = λ one. (st.queued one).1;
         }
       where
         through : (a b c : ℕ) → a ≤ b → b ≤ c → a ≤ c

@@ -107,6 +107,7 @@ module _ {S Op : Type 0} (meaning : Meaning Op) (laws : Lawful meaning) (o : Ori
         counted = a.counted;
         accounts = accounts_on v.mine (posts_of v) others a.accounts;
         licensed = licences_on (posts_of v) others a.licensed;
+        queued = a.queued;
         stand = a.stand;
         settled = a.settled;
         reads = a.reads;

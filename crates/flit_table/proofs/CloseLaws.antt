@@ -207,6 +207,7 @@ module _ {S Op : Type 0} (meaning : Meaning Op) (laws : Lawful meaning) (o : Ori
         order = saying.in_order meaning laws o m log a b v k;
         whole_order = saying.whole_order meaning laws o m log a b v k;
         bounded = here.bounded;
+        queued = here.queued;
         gathered = λ all. record {
           whole = sym (all_seen all);
           own = own all;

@@ -14,7 +14,7 @@ use Rattle.flit_structure.specs.declared.workers.Doing.{Doing}
 use Rattle.flit_structure.specs.declared.workers.Doing.TheVariants.{Idle, Busy, Evicting}
 use Rattle.flit_structure.specs.declared.workers.Worker.{Worker}
 use Rattle.flit_structure.specs.Moments.{Moment, idle, busy, sweeper}
-use Rattle.flit_structure.specs.Meanings.{Meaning, Happens, finishing, evicted, first_at, replied}
+use Rattle.flit_structure.specs.Meanings.{Meaning, Happens, finishing, evicted, first_at, replied, tally}
 use Rattle.flit_structure.specs.Lawful.{Lawful, StandsFrom, IsReplied}
 use Rattle.flit_table.specs.declared.views.Logged.{Logged}
 use Rattle.flit_table.specs.declared.views.Made.{Made}
@@ -23,7 +23,7 @@ use Rattle.flit_table.specs.declared.views.Origin.{Origin}
 use Rattle.flit_table.specs.declared.views.View.{View}
 use Rattle.flit_table.specs.Logs.{progress_of, settled_in}
 use Rattle.flit_table.specs.Views.{content_of, updates_in, reads_in, updates_seen, all_workers}
-use Rattle.flit_table.specs.Moves.{first_in, call_over, evict_over, over, rests_after_call, rests_after_evict, rests}
+use Rattle.flit_table.specs.Moves.{first_in, call_over, evict_over, over, rests_after_call, rests_after_evict, rests, tally_in}
 use Rattle.flit_table.specs.Rule.{Account, moment_of, Kept}
 use Rattle.flit_table.specs.Orders.{IsOneMore}
 use Rattle.flit_table.proofs.ViewWorkers.{behind_first, all_around}
@@ -116,6 +116,7 @@ module _ {S Op : Type 0} (meaning : Meaning Op) (laws : Lawful meaning) (o : Ori
         named = (refl, tt);
         account = own_account;
         licence = tt;
+        unqueued = subst (λ d. (tally_in meaning d).queued ≡ 0 → (tally meaning op).queued ≡ 0) (sym e) (λ h. h);
         settled = subst (λ l. AllByRecursion (StandsFrom 0 (settled_in l)) (updates_in items)) (sym whole)
             (replying.replied_settled (settled_in log) v.mine name number op call begun hand meaning.layout meaning.room (content_of o) m (progress_of log)
             (first_at 0 begun) reply refl r);
@@ -148,6 +149,7 @@ module _ {S Op : Type 0} (meaning : Meaning Op) (laws : Lawful meaning) (o : Ori
             Account {Op = Op} (settled_in log) (v.mine ++ items) (idle name number evict.hand)) (sym e)
             (λ x. evict_item (settled_in log) v.mine (idle name number evict.hand) name evict.word (evict_account (settled_in log) v.mine name number evict x));
         licence = tt;
+        unqueued = subst (λ d. (tally_in meaning d).queued ≡ 0 → evict.hand.tally.queued ≡ 0) (sym e) (λ h. h);
         settled = tt;
         are = refl;
         right = tt;

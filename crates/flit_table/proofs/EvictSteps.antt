@@ -102,6 +102,7 @@ module _ {S Op : Type 0} (meaning : Meaning Op) (laws : Lawful meaning) (o : Ori
       placed = placed_now v y w evict (Load word) n same refl log first_stepped refl;
       events = events_now v y w evict (Load word) n same refl log first_stepped;
       order = first_stepped.order;
+      queued = λ one. (first_stepped.queued one).1;
     }
 
   -- the second
@@ -125,4 +126,5 @@ module _ {S Op : Type 0} (meaning : Meaning Op) (laws : Lawful meaning) (o : Ori
       order = second_stepped.order;
       right = second_stepped.right;
       legal = second_stepped.legal;
+      queued = λ one. (second_stepped.queued one).1;
     }

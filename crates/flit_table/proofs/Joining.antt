@@ -19,6 +19,7 @@ use Rattle.flit_table.specs.Logs.{settled_in, longer_log, shorter_log}
 use Rattle.flit_table.specs.Views.{content_of, name_of, answered, updates_in, reads_in, new_posts, workers_of, posts_of, used_of, all_workers, updates_seen, HasName, both, spent}
 use Rattle.flit_table.specs.Orders.{StandBy}
 use Rattle.flit_table.proofs.Standing.{stand_grown, stand_behind, stand_before, no_reads_of}
+use Rattle.flit_table.specs.Moves.{HasNoneQueued}
 use Rattle.flit_table.specs.Rule.{Account, moment_of, IsLicensed, IsWithinBounds, Agrees, HasWhole, Kept}
 use Rattle.flit_table.proofs.LogLaws.{continues_same, seen_grows}
 use Rattle.flit_table.proofs.JoinedLogs.{AreJoined, logs_joined}
@@ -178,6 +179,8 @@ module _ {S Op : Type 0} (meaning : Meaning Op) (laws : Lawful meaning) (o : Ori
               (all_both (λ p. Account settled (v.mine ++ w.mine) p.worker) (posts_of v) (posts_of w) (first_accounts x y) (second_accounts x y));
           licensed = subst (AllByRecursion (IsLicensed meaning M)) (sym posts)
               (all_both (IsLicensed meaning M) (posts_of v) (posts_of w) x.licensed y.licensed);
+          queued = λ one. subst (AllByRecursion (HasNoneQueued meaning)) (sym posts)
+              (all_both (HasNoneQueued meaning) (posts_of v) (posts_of w) (x.queued one) (y.queued one));
           stand = subst (AllByRecursion (λ p. StandBy meaning (settled_in longer) (v.mine ++ w.mine) (v.placed ++ w.placed) p.worker)) (sym posts)
               (all_both (λ p. StandBy meaning (settled_in longer) (v.mine ++ w.mine) (v.placed ++ w.placed) p.worker) (posts_of v) (posts_of w)
               (subst (λ es. AllByRecursion (λ p. StandBy meaning es (v.mine ++ w.mine) (v.placed ++ w.placed) p.worker) (posts_of v)) (sym f.1) (first_stand x y f.0))
@@ -209,6 +212,7 @@ module _ {S Op : Type 0} (meaning : Meaning Op) (laws : Lawful meaning) (o : Ori
     counted = tt;
     accounts = tt;
     licensed = tt;
+    queued = λ one. tt;
     stand = tt;
     settled = tt;
     reads = refl;

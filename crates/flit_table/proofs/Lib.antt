@@ -2,6 +2,7 @@ pub mod LogLaws
 pub mod ViewWorkers
 pub mod Accounts
 pub mod Changes
+pub mod Unqueued
 pub mod Beginning
 pub mod Moving
 pub mod Resting

@@ -21,11 +21,12 @@ use Rattle.flit_table.specs.declared.views.Start.{Start}
 use Rattle.flit_table.specs.declared.views.View.{View}
 use Rattle.flit_table.specs.Logs.{logged_by}
 use Rattle.flit_table.specs.Views.{all_workers}
-use Rattle.flit_table.specs.Moves.{MayEnter, entering, having_moved, having_rested}
+use Rattle.flit_table.specs.Moves.{MayEnter, HasNoneQueued, EntersUnqueued, entering, having_moved, having_rested}
 use Rattle.flit_table.specs.Rule.{laid_out, moment_of, IsLicensedIn, IsLicensed, Agrees, Kept, IsRuled}
 use Rattle.flit_table.specs.Places.{place_in}
 use Rattle.flit_table.specs.Steps.{IsTold, IsRepliedIn, IsTrying, Stepped}
 use Rattle.flit_table.proofs.ViewWorkers.{behind_first, posts_head, all_around}
+use Rattle.flit_table.proofs.Unqueued.{enters_unqueued}
 use Rattle.flit_table.proofs.Beginning.{begins_kept}
 use Rattle.flit_table.proofs.Moving.{moves_kept}
 use Rattle.flit_table.proofs.Ending as ending
@@ -106,6 +107,15 @@ module _ {S Op : Type 0} (meaning : Meaning Op) (laws : Lawful meaning) (o : Ori
         let x : Agrees meaning o log N v = all_at (Agrees meaning o log N) a b v k.each in
         trying_in N v.post u.doing (subst (AllByRecursion (IsLicensed meaning N)) (posts_head v some) x.licensed).0
 
+    pub is_unqueued : meaning.layout.workers ≡ 1 → HasNoneQueued meaning v.post
+    is_unqueued one =
+        let N = moment_of o m log (all_workers (a ++ v ∷ b)) in
+        let x : Agrees meaning o log N v = all_at (Agrees meaning o log N) a b v k.each in
+        (subst (AllByRecursion (HasNoneQueued meaning)) (posts_head v some) (x.queued one)).0
+
+    pub goes_unqueued : meaning.layout.workers ≡ 1 → EntersUnqueued meaning v.post
+    goes_unqueued one = enters_unqueued meaning laws M A B v.post holds_around (is_unqueued one)
+
   -- the table after the step, and what the pass is told
   pub record Makes (t : table.State ℕ (View S Op)) (id : ℕ) (v : View S Op) (start : Start) (e : Event) : Type 0 where
     pub view : View S Op
@@ -157,6 +167,7 @@ module _ {S Op : Type 0} (meaning : Meaning Op) (laws : Lawful meaning) (o : Ori
         within = λ d asks_now. is_within (after m e) longer a b v2 some k2 d asks_now;
         replied = is_replied (after m e) longer a b v2 some k2;
         trying = is_trying (after m e) longer a b v2 some k2;
+        queued = λ one. (is_unqueued (after m e) longer a b v2 some k2 one, goes_unqueued (after m e) longer a b w some r.kept one);
         legal = saying.seen_legal meaning laws o (after m e) longer a b w r.kept;
         order = saying.in_order meaning laws o (after m e) longer a b w r.kept;
         hand = has_hand (after m e) longer a b w some r.kept;

@@ -25,13 +25,14 @@ use Rattle.flit_table.specs.declared.views.Post.{Post}
 use Rattle.flit_table.specs.declared.views.View.{View}
 use Rattle.flit_table.specs.Logs.{progress_of, settled_in, logged_by, Continues}
 use Rattle.flit_table.specs.Views.{content_of, answered, updates_in, posts_of, all_workers, updates_seen}
-use Rattle.flit_table.specs.Moves.{tried_after, moved_post, having_moved}
+use Rattle.flit_table.specs.Moves.{HasNoneQueued, tried_after, moved_post, having_moved}
 use Rattle.flit_table.specs.Rule.{Account, moment_of, IsLicensedIn, IsLicensed, Agrees, Kept}
 use Rattle.flit_table.specs.Orders.{IsOneMore, IsDoneFrom, StandBy}
 use Rattle.flit_table.proofs.Standing.{stand_at, stand_grown}
 use Rattle.flit_table.proofs.LogLaws.{log_follows, continues_same, continues_on, seen_grows}
 use Rattle.flit_table.proofs.ViewWorkers.{rest_of, posts_head}
 use Rattle.flit_table.proofs.Accounts.{AddsOne}
+use Rattle.flit_table.proofs.Unqueued.{makes_unqueued}
 use Rattle.flit_table.proofs.Changes as changes
 use Rattle.flit_table.proofs.Beginning.{whole_here}
 
@@ -174,6 +175,9 @@ module _ {S Op : Type 0} (meaning : Meaning Op) (laws : Lawful meaning) (o : Ori
             (account, changes.accounts_on meaning laws o u.name before later c v.mine (rest_of v) others accounts.1);
         licensed = subst (AllByRecursion (IsLicensed meaning later)) (sym new)
             (licence, changes.licences_on meaning laws o u.name before later c (rest_of v) others licences.1);
+        queued = λ one. (let h = subst (AllByRecursion (HasNoneQueued meaning)) old (x.queued one) in
+            subst (AllByRecursion (HasNoneQueued meaning)) (sym new)
+            (makes_unqueued meaning laws (moment_of o m log []) A B u.name u.number (length settled) u.doing e one asked holds h.0, h.1));
         stand = subst (λ es. AllByRecursion (λ p. StandBy meaning es v.mine v.placed p.worker) (posts_of w)) (sym grown.1)
             (subst (AllByRecursion (λ p. StandBy meaning (updates_seen v ++ grown.0) v.mine v.placed p.worker)) (sym new) (
               stand_grown meaning (updates_seen v) v.mine v.placed grown.0 w.post.worker

@@ -9,6 +9,7 @@ use Rattle.flit_structure.specs.Lawful.{Lawful}
 use Rattle.flit_table.specs.declared.views.Origin.{Origin}
 use Rattle.flit_table.specs.declared.views.Post.{Post}
 use Rattle.flit_table.specs.Views.{opening_of, new_post, new_posts, workers_of, posts_with}
+use Rattle.flit_table.specs.Moves.{HasNoneQueued}
 use Rattle.flit_table.specs.Orders.{StandBy}
 use Rattle.flit_table.proofs.Standing.{stand_new}
 use Rattle.flit_table.specs.Rule.{Account, moment_of, IsLicensed, Kept, first_view}
@@ -45,6 +46,10 @@ module _ {S Op : Type 0} (meaning : Meaning Op) (laws : Lawful meaning) (o : Ori
   licences N first zero = tt
   licences N first (suc n) = (tt, licences N (suc first) n)
 
+  unqueued : (first n : ℕ) → AllByRecursion (HasNoneQueued meaning) (new_posts first n)
+  unqueued first zero = tt
+  unqueued first (suc n) = (refl, unqueued (suc first) n)
+
   pub opens_kept : Kept meaning o (state_from meaning.layout (opening_of o).words) [] (first_view meaning o ∷ [])
   opens_kept =
       let n = meaning.layout.workers in
@@ -64,6 +69,7 @@ module _ {S Op : Type 0} (meaning : Meaning Op) (laws : Lawful meaning) (o : Ori
             accounts = subst (AllByRecursion (λ p. Account [] [] p.worker)) (sym posts) (new_accounts Op 1 n);
             licensed = subst (AllByRecursion (IsLicensed meaning (M (workers_of (posts_with {Op = Op} n 1 (new_post 1) []) ++ [])))) (sym posts)
                 (licences (M (workers_of (posts_with {Op = Op} n 1 (new_post 1) []) ++ [])) 1 n);
+            queued = λ one. subst (AllByRecursion (HasNoneQueued meaning)) (sym posts) (unqueued 1 n);
             stand = subst (AllByRecursion (λ p. StandBy meaning [] [] [] p.worker)) (sym posts) (stand_new meaning [] n 1);
             settled = tt;
             reads = refl;

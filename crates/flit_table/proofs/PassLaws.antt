@@ -14,11 +14,12 @@ use Rattle.flit_table.specs.declared.passes.Rest.TheVariants.{Hand, Ended, Stopp
 use Rattle.flit_table.specs.declared.views.Post.{Post}
 use Rattle.flit_table.specs.declared.views.Start.{Start}
 use Rattle.flit_table.specs.declared.views.Start.TheVariants.{Go, Begin, Sweep}
-use Rattle.flit_table.specs.Moves.{MayEnter, entered, entering}
+use Rattle.flit_table.specs.Moves.{MayEnter, EntersUnqueued, entered, entering, tally_in}
 use Rattle.flit_table.specs.Steps.{Home}
 use Rattle.flit_table.specs.Calls.{Ends, Runs}
-use Rattle.flit_table.specs.Passes.{is_stopped, hand_kept, MayBeginIn, begun_in, IsIdle, IsAt, IsHeld, IsCalling, tally_in}
+use Rattle.flit_table.specs.Passes.{is_stopped, hand_kept, MayBeginIn, begun_in, IsIdle, IsAt, IsHeld, IsCalling, waits_in}
 use Rattle.flit_table.proofs.CallSteps.{begins_runs}
+use Rattle.flit_table.proofs.Unqueued.{busy_enters, waits_free}
 
 module _ {Op : Type 0} (meaning : Meaning Op) where
   -- the hand of a pass that isn't stopped
@@ -73,6 +74,19 @@ module _ {S Op : Type 0} (meaning : Meaning Op) where
   may_begin_in home h call held free served count = may_begin_at meaning h.seat.me.0.post h.calls h.rest call free held.at
       (may_begin home h call held free served count)
 
+  -- with one worker nothing is queued then
+  pub free_unqueued : (home : Home S) (h : Holder S Op) → IsHeld meaning home h → is_stopped h.rest ≡ false → meaning.layout.workers ≡ 1 →
+      EntersUnqueued meaning h.seat.me.0.post
+  free_unqueued home h held free one = subst (λ s. EntersUnqueued meaning (entered meaning s h.seat.me.0.post)) (waits_free h.rest free) (held.queued one)
+
+  -- nor is it in a pass that is stopped
+  pub stopped_unqueued : (home : Home S) (h : Holder S Op) → IsHeld meaning home h → (so_far : Tally) (start : Start) → h.rest ≡ Stopped so_far start →
+      meaning.layout.workers ≡ 1 → so_far.queued ≡ 0
+  stopped_unqueued home h held so_far start is one =
+      let halted = subst (IsAt meaning h.seat.me.0.post h.calls) is held.at in
+      let unqueued = subst (λ z. EntersUnqueued meaning (entered meaning (waits_in z) h.seat.me.0.post)) is (held.queued one) in
+      ap (λ t. t.queued) halted.tally ∙ unqueued Go tt
+
   -- a pass that begins a call
   pub begins_calling : Lawful meaning → (home : Home S) (h : Holder S Op) (call : Call) → IsHeld meaning home h → is_stopped h.rest ≡ false →
       IsServed meaning.layout call → h.calls < 4294967295 →
@@ -87,7 +101,7 @@ module _ {S Op : Type 0} (meaning : Meaning Op) where
         calls = counted;
         op = meaning.begun (hand_of meaning h.seat.me.0.post.worker) call;
         is = is ∙ begun_at meaning h.seat.me.0.post h.calls h.rest call free held.at;
-        at = (may, begins_runs meaning laws home.origin call h.seat.me.0 may, λ less. absurd (omega (arith, less)));
+        at = (may, begins_runs meaning laws home.origin call h.seat.me.0 may (free_unqueued home h held free), λ less. absurd (omega (arith, less)));
       }
 
   -- what stays of a pass in its call
@@ -110,6 +124,7 @@ module _ {S Op : Type 0} (meaning : Meaning Op) where
             subst (λ u. IsIdle u k.calls (meaning.finished c.op)) (sym e.worker)
                 (record { doing = refl; name = e.hand.0; number = e.hand.1; calls = c.calls ∙ ap (λ x. x + 1) f.idle.calls }),
           );
+          queued = λ one. subst (λ z. EntersUnqueued meaning (entered meaning (waits_in z) k.seat.me.0.post)) (sym c.is) (e.next one);
         }
 
     -- a pass whose call is stopped
@@ -131,6 +146,9 @@ module _ {S Op : Type 0} (meaning : Meaning Op) where
             calls = c.calls ∙ ap (λ x. x + 1) f.idle.calls ∙ sym (ap (λ (u : Worker Op). u.number) r.worker);
             tally = counted ∙ sym (ap (λ (u : Worker Op). tally_in meaning u.doing) r.worker);
           });
+          queued = λ one. subst (λ z. EntersUnqueued meaning (entered meaning (waits_in z) k.seat.me.0.post)) (sym is)
+              (busy_enters meaning (entered meaning start k.seat.me.0.post) h.seat.me.0.post.worker.name (h.seat.me.0.post.worker.number + 1) c.op call r.begun
+              r.worker (r.queued one));
         }
       where
         name_entered : (x : Start) (p : Post Op) → p.worker.name ≡ (entered meaning x p).worker.name

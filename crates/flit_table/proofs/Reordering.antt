@@ -51,6 +51,7 @@ module _ {S Op : Type 0} (meaning : Meaning Op) (laws : Lawful meaning) (o : Ori
       counted = a.counted;
       accounts = a.accounts;
       licensed = licences_stay (posts_of v) among a.licensed;
+      queued = a.queued;
       stand = a.stand;
       settled = a.settled;
       reads = a.reads;

@@ -18,6 +18,7 @@ use Rattle.flit_table.specs.declared.views.Origin.{Origin}
 use Rattle.flit_table.specs.declared.views.View.{View}
 use Rattle.flit_table.specs.Logs.{settled_in}
 use Rattle.flit_table.specs.Views.{content_of, name_of, answered, updates_in, reads_in, HasName, workers_of, used_of, posts_of, updates_seen}
+use Rattle.flit_table.specs.Moves.{HasNoneQueued, tally_in}
 use Rattle.flit_table.specs.Orders.{StandBy}
 use Rattle.flit_table.proofs.Standing.{stand_behind, no_reads_of}
 use Rattle.flit_table.specs.Rule.{Account, IsLicensed, IsWithinBounds, Agrees, Kept}
@@ -46,6 +47,7 @@ pub record Comes {S Op : Type 0} (meaning : Meaning Op) (o : Origin S) (log : Li
   pub named : AllByRecursion (λ i. name_of i ≡ v.post.worker.name) items
   pub account : Account (settled_in log) v.mine v.post.worker → Account (settled_in log) (v.mine ++ items) (record v.post.worker { doing = doing })
   pub licence : IsLicensed meaning M (record v.post { worker = record v.post.worker { doing = doing } })
+  pub unqueued : HasNoneQueued meaning v.post → (tally_in meaning doing).queued ≡ 0
   pub settled : AllByRecursion (StandsFrom 0 (updates_seen v)) (updates_in items)
   pub are : map (λ r. r.entry) reads ≡ reads_in items
   pub right : AllByRecursion (IsRightAt (content_of o) (updates_seen v)) reads
@@ -115,6 +117,8 @@ module _ {S Op : Type 0} (meaning : Meaning Op) (laws : Lawful meaning) (o : Ori
               (i.account accounts.0, rest_accounts i.named others accounts.1);
           licensed = subst (AllByRecursion (IsLicensed meaning later)) (sym new)
               (i.licence, changes.licences_on meaning laws o v.post.worker.name before later c (rest_of v) others licences.1);
+          queued = λ one. (let h = subst (AllByRecursion (HasNoneQueued meaning)) old (x.queued one) in
+              subst (AllByRecursion (HasNoneQueued meaning)) (sym new) (i.unqueued h.0, h.1));
           stand = subst (AllByRecursion (λ p. StandBy meaning (updates_seen v) (v.mine ++ items) (v.placed ++ reads) p.worker)) (sym new)
               (i.stands accounts.0 x.reads stands.0, rest_stands i.named i.are others stands.1);
           settled = subst (AllByRecursion (StandsFrom 0 (updates_seen v))) (sym (updates-append v.mine items))

@@ -17,6 +17,7 @@ use Rattle.flit_table.specs.declared.views.View.{View}
 use Rattle.flit_table.specs.Views.{name_of, answered, new_post, new_posts, workers_of, posts_of, used_of, all_workers, updates_seen, HasName, keeper, heir}
 use Rattle.flit_table.specs.Orders.{StandBy}
 use Rattle.flit_table.proofs.Standing.{stand_new}
+use Rattle.flit_table.specs.Moves.{HasNoneQueued}
 use Rattle.flit_table.specs.Rule.{Account, moment_of, IsLicensed, Agrees, HasWhole, Kept}
 use Rattle.flit_table.proofs.ViewWorkers.{all_zip, posts_all, workers_joined, posts_head, all_joined, all_among}
 use Rattle.flit_table.proofs.Accounts.{NoneOf, account_alone}
@@ -164,6 +165,9 @@ module _ {S Op : Type 0} (meaning : Meaning Op) (laws : Lawful meaning) (o : Ori
     licences : AllByRecursion (IsLicensed meaning N) (F ++ (G ++ v.gone))
     licences = subst (AllByRecursion (IsLicensed meaning N)) stretches here.licensed
 
+    unqueued : meaning.layout.workers ≡ 1 → AllByRecursion (HasNoneQueued meaning) (F ++ (G ++ v.gone))
+    unqueued one = subst (AllByRecursion (HasNoneQueued meaning)) stretches (here.queued one)
+
     keeper_agrees : Agrees meaning o log N (keeper give v)
     keeper_agrees = record {
       opened = here.opened;
@@ -175,6 +179,7 @@ module _ {S Op : Type 0} (meaning : Meaning Op) (laws : Lawful meaning) (o : Ori
       accounts = subst (AllByRecursion (λ p. Account settled v.mine p.worker)) (sym keeps)
           (two_of_three (λ p. Account settled v.mine p.worker) F G v.gone accounts);
       licensed = subst (AllByRecursion (IsLicensed meaning N)) (sym keeps) (two_of_three (IsLicensed meaning N) F G v.gone licences);
+      queued = λ one. subst (AllByRecursion (HasNoneQueued meaning)) (sym keeps) (two_of_three (HasNoneQueued meaning) F G v.gone (unqueued one));
       stand = subst (AllByRecursion (λ p. StandBy meaning (updates_seen v) v.mine v.placed p.worker)) (sym keeps)
           (two_of_three (λ p. StandBy meaning (updates_seen v) v.mine v.placed p.worker) F G v.gone
           (subst (AllByRecursion (λ p. StandBy meaning (updates_seen v) v.mine v.placed p.worker)) stretches here.stand));
@@ -207,6 +212,7 @@ module _ {S Op : Type 0} (meaning : Meaning Op) (laws : Lawful meaning) (o : Ori
       counted = tt;
       accounts = subst (AllByRecursion (λ p. Account settled [] p.worker)) (sym gives) heir_accounts;
       licensed = subst (AllByRecursion (IsLicensed meaning N)) (sym gives) (middle_of (IsLicensed meaning N) F G v.gone licences);
+      queued = λ one. subst (AllByRecursion (HasNoneQueued meaning)) (sym gives) (middle_of (HasNoneQueued meaning) F G v.gone (unqueued one));
       stand = subst (AllByRecursion (λ p. StandBy meaning (updates_seen v) [] [] p.worker)) (sym gives)
           (stand_new meaning (updates_seen v) give (v.name + keep));
       settled = tt;

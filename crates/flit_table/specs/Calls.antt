@@ -21,7 +21,7 @@ use Rattle.flit_table.specs.declared.views.Start.{Start}
 use Rattle.flit_table.specs.declared.views.Start.TheVariants.{Go}
 use Rattle.flit_table.specs.Logs.{Continues}
 use Rattle.flit_table.specs.Orders.{AreInOrder}
-use Rattle.flit_table.specs.Moves.{MayEnter, entering}
+use Rattle.flit_table.specs.Moves.{MayEnter, EntersUnqueued, entering}
 use Rattle.flit_table.specs.Views.{content_of, reads_in, updates_seen, history_seen}
 
 -- the call of a name, with its reply
@@ -45,7 +45,8 @@ pub data Comes {Op : Type 0} (meaning : Meaning Op) (first : Op) : Op → ℕ �
       Comes meaning first (meaning.taken op told) (n + 1) (events_of_try tried (tally meaning op) (tally meaning (meaning.taken op told)))
 
 module _ {S Op : Type 0} (meaning : Meaning Op) (o : Origin S) where
-  -- the call that began at the view v has made so many events, has no reply, and is at op
+  -- the call that began at the view v has made so many events, has no reply, and is at op; with one worker nothing is
+  -- queued
   pub record Runs (call : Call) (v w : View S Op) (op : Op) (made : ℕ) : Type 0 where
     pub begun : Option ℕ
     pub comes : Comes meaning (meaning.begun (hand_of meaning v.post.worker) call) op made w.post.tried
@@ -59,10 +60,12 @@ module _ {S Op : Type 0} (meaning : Meaning Op) (o : Origin S) where
     pub late : length (updates_seen v) ≤ first_at (length (updates_seen v)) begun
     pub order : 0 < made → AreInOrder w
     pub unreplied : replied meaning op ≡ None
+    pub queued : meaning.layout.workers ≡ 1 → (tally meaning op).queued ≡ 0
     pub within : (e : Event) → meaning.asked op ≡ Some e → IsWithin meaning.layout e
 
   -- the call that began at the view v has its reply after so many events. An update stands in the new part of what has
-  -- been seen; a completed read has its place there, and all placed reads are right
+  -- been seen; a completed read has its place there, and all placed reads are right. With one worker nothing is queued,
+  -- nor is it as the next call begins
   pub record Ends (call : Call) (v w : View S Op) (op : Op) (reply : Reply) (made : ℕ) : Type 0 where
     pub comes : Comes meaning (meaning.begun (hand_of meaning v.post.worker) call) op made w.post.tried
     pub replied : replied meaning op ≡ Some reply
@@ -88,6 +91,8 @@ module _ {S Op : Type 0} (meaning : Meaning Op) (o : Origin S) where
     pub bounded : IsBounded meaning.layout meaning.room state (updates_seen w) reply
     pub trying : IsBelowTop (tally meaning op) →
         AreSearchesBounded meaning.layout.kind (hand_of meaning v.post.worker).tally (tally meaning op) × IsTryBounded meaning.bound w.post.tried None
+    pub queued : meaning.layout.workers ≡ 1 → (tally meaning op).queued ≡ 0
+    pub next : meaning.layout.workers ≡ 1 → EntersUnqueued meaning w.post
 
   -- the call that began at the view v is at op, after so many events: it has no reply, and its pass, which has the view
   -- w, begins this with its next event, which is nothing once there were events; or it has this reply
@@ -109,6 +114,7 @@ module _ {S Op : Type 0} (meaning : Meaning Op) (o : Origin S) where
     pub placed : w.placed ≡ v.placed
     pub events : w.events ≡ v.post.worker.name ∷ v.events
     pub order : AreInOrder w
+    pub queued : meaning.layout.workers ≡ 1 → EntersUnqueued meaning w.post
 
   -- it has made both, and is among the items made
   pub record Evicts (word : ℕ) (v w : View S Op) : Type 0 where
@@ -122,6 +128,7 @@ module _ {S Op : Type 0} (meaning : Meaning Op) (o : Origin S) where
     pub order : AreInOrder w
     pub right : AllByRecursion (IsRightAt (content_of o) (updates_seen w)) w.placed
     pub legal : IsLegal (content_of o) (updates_seen w)
+    pub queued : meaning.layout.workers ≡ 1 → EntersUnqueued meaning w.post
 
   -- an evict of a word that was stopped has made no event, and its pass is as it was; or one event, the load of this word
   abbrev pub IsCut : ℕ → ℕ → View S Op → View S Op → Type 0

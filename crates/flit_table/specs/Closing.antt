@@ -25,6 +25,7 @@ use Rattle.flit_table.specs.declared.views.Logged.{Logged}
 use Rattle.flit_table.specs.declared.views.Origin.{Origin}
 use Rattle.flit_table.specs.declared.views.View.{View}
 use Rattle.flit_table.specs.Logs.{Continues, progress_of, settled_in}
+use Rattle.flit_table.specs.Moves.{HasNoneQueued}
 use Rattle.flit_table.specs.Orders.{StandInOrder, AreInOrder}
 use Rattle.flit_table.specs.Views.{content_of, name_of, answered, reads_in, HasName, workers_of, posts_of, used_of, names_of, updates_seen, history_seen}
 use Rattle.flit_table.specs.Rule.{Account, moment_of, IsWithinBounds}
@@ -115,5 +116,7 @@ module _ {S Op : Type 0} (meaning : Meaning Op) where
     pub order : AreInOrder v
     pub whole_order : AllByRecursion (λ p. StandInOrder (history_of (settled_in log) v.placed) v.mine p.worker) (posts_of v)
     pub bounded : AllByRecursion (IsWithinBounds meaning (moment_of o state log workers)) (answered v.mine)
+    -- with one worker nothing was queued
+    pub queued : meaning.layout.workers ≡ 1 → AllByRecursion (HasNoneQueued meaning) (posts_of v)
     -- a pass with all names has seen all
     pub gathered : HasAllNames v → HasSeenAll v log workers

@@ -6,6 +6,7 @@ use Rattle.flit_model.specs.declared.events.Event.{Event}
 use Rattle.flit_model.specs.declared.calls.Call.{Call}
 use Rattle.flit_model.specs.declared.calls.Placed.{Placed}
 use Rattle.flit_model.specs.declared.calls.Reply.{Reply}
+use Rattle.flit_model.specs.declared.calls.Tally.{Tally}
 use Rattle.flit_pv.specs.declared.hands.Hand.{Hand}
 use Rattle.flit_pv.specs.declared.evicts.Evict.{Evict}
 use Rattle.flit_pv.specs.Evicts.{evict_started, evict_asked}
@@ -63,6 +64,19 @@ module _ {Op : Type 0} (meaning : Meaning Op) where
   MayEnter Go p = Unit {0}
   MayEnter (Begin call) p = (hand : Hand) × (p.worker.doing ≡ Idle hand) × MayStart meaning.layout hand call
   MayEnter (Sweep word) p = (hand : Hand) × (p.worker.doing ≡ Idle hand) × (word < words_of meaning.layout)
+
+  -- the tally of a worker so far
+  abbrev pub tally_in : Doing Op → Tally
+  tally_in (Idle hand) = hand.tally
+  tally_in (Busy op call begun) = tally meaning op
+  tally_in (Evicting evict) = evict.hand.tally
+
+  -- no event of a post's worker has queued a word; and so it is whatever the worker begins there, or where it goes on
+  abbrev pub HasNoneQueued : Post Op → Type 0
+  HasNoneQueued p = (tally_in p.worker.doing).queued ≡ 0
+
+  abbrev pub EntersUnqueued : Post Op → Type 0
+  EntersUnqueued p = (start : Start) → MayEnter start p → HasNoneQueued (entered start p)
 
   -- the number of an operation's events since its last search began, after its event
   abbrev pub tried_after : ℕ → Doing Op → ℕ → ℕ

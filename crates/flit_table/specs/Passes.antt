@@ -5,10 +5,9 @@ use Rattle.flit_model.specs.declared.calls.Call.{Call}
 use Rattle.flit_model.specs.declared.calls.Reply.{Reply}
 use Rattle.flit_model.specs.declared.calls.Tally.{Tally}
 use Rattle.flit_pv.specs.declared.hands.Hand.{Hand as A_hand}
-use Rattle.flit_structure.specs.declared.workers.Doing.{Doing}
-use Rattle.flit_structure.specs.declared.workers.Doing.TheVariants.{Idle, Busy, Evicting}
+use Rattle.flit_structure.specs.declared.workers.Doing.TheVariants.{Idle}
 use Rattle.flit_structure.specs.declared.workers.Worker.{Worker}
-use Rattle.flit_structure.specs.Meanings.{Meaning, MayStart, IsServed, replied, tally}
+use Rattle.flit_structure.specs.Meanings.{Meaning, MayStart, IsServed, replied}
 use Rattle.flit_table.specs.declared.views.Origin.{Origin}
 use Rattle.flit_table.specs.declared.views.View.{View}
 use Rattle.flit_table.specs.declared.views.Post.{Post}
@@ -20,7 +19,7 @@ use Rattle.flit_table.specs.declared.passes.Holder.{Holder}
 use Rattle.flit_table.specs.declared.passes.Pass.{Pass}
 use Rattle.flit_table.specs.declared.passes.Within.{Within}
 use Rattle.flit_table.specs.declared.passes.Within.TheVariants.{Done, Stopped as Stopped_call}
-use Rattle.flit_table.specs.Moves.{MayEnter, entered, entering}
+use Rattle.flit_table.specs.Moves.{MayEnter, EntersUnqueued, tally_in, entered, entering}
 use Rattle.flit_table.specs.Steps.{Belongs, Home, meaning_of}
 use Rattle.flit_table.specs.Views.{workers_of, posts_of, keeper, heir, both}
 use Rattle.flit_table.specs.Logs.{Continues, shorter_log, longer_log}
@@ -113,17 +112,11 @@ module _ {Op : Type 0} (meaning : Meaning Op) where
   begun_in (Ended op) call = Ended (meaning.begun (meaning.finished op) call)
   begun_in (Stopped tally start) call = Stopped tally start
 
-  -- the tally of a worker so far
-  abbrev pub tally_in : Doing Op → Tally
-  tally_in (Idle hand) = hand.tally
-  tally_in (Busy op call begun) = tally meaning op
-  tally_in (Evicting evict) = evict.hand.tally
-
   -- a worker that is stopped, under way or before its call's first event
   pub record IsHalted (p : Post Op) (begun : ℕ) (so_far : Tally) (start : Start) : Type 0 where
     pub may : MayEnter meaning start p
     pub calls : begun ≡ (entered meaning start p).worker.number
-    pub tally : so_far ≡ tally_in (entered meaning start p).worker.doing
+    pub tally : so_far ≡ tally_in meaning (entered meaning start p).worker.doing
 
   -- what the worker of a pass is at
   abbrev pub IsAt : Post Op → ℕ → Rest Op → Type 0
@@ -157,6 +150,8 @@ module _ {S Op : Type 0} (meaning : Meaning Op) where
     pub least : 1 ≤ h.seat.me.0.name
     pub most : h.seat.me.0.name + h.seat.me.0.names ≤ meaning.layout.workers + 1
     pub at : IsAt meaning h.seat.me.0.post h.calls h.rest
+    -- with one worker nothing is queued, by what the pass waits to begin neither
+    pub queued : meaning.layout.workers ≡ 1 → EntersUnqueued meaning (entered meaning (waits_in h.rest) h.seat.me.0.post)
 
   -- a pass, which was h, has begun a call: its operation stands where the pass rests, has made so many events, and has
   -- this reply or none

@@ -19,6 +19,7 @@ use Rattle.flit_table.specs.declared.views.Origin.{Origin}
 use Rattle.flit_table.specs.declared.views.Post.{Post}
 use Rattle.flit_table.specs.declared.views.View.{View}
 use Rattle.flit_table.specs.Logs.{progress_of, Continues}
+use Rattle.flit_table.specs.Moves.{HasNoneQueued}
 use Rattle.flit_table.specs.Orders.{IsOneMore, StandBy}
 use Rattle.flit_table.specs.Views.{opening_of, content_of, name_of, answered, updates_in, reads_in, entries_of, HasName, posts_of, used_of, all_workers, updates_seen, newcomer}
 
@@ -80,6 +81,8 @@ module _ {S Op : Type 0} (meaning : Meaning Op) where
     -- what has been said to the callers: of each name
     pub accounts : AllByRecursion (λ p. Account M.progress.settled v.mine p.worker) (posts_of v)
     pub licensed : AllByRecursion (IsLicensed meaning M) (posts_of v)
+    -- with one worker nothing is queued
+    pub queued : meaning.layout.workers ≡ 1 → AllByRecursion (HasNoneQueued meaning) (posts_of v)
     -- and in order: each name's completed calls stand by a number of the updates that it has seen
     pub stand : AllByRecursion (λ p. StandBy meaning (updates_seen v) v.mine v.placed p.worker) (posts_of v)
     -- each update has been seen; each completed read has its place, where its reply is right; and each bound holds

@@ -24,7 +24,7 @@ use Rattle.flit_table.specs.declared.views.View.{View}
 use Rattle.flit_table.specs.Logs.{progress_of, Continues}
 use Rattle.flit_table.specs.Orders.{AreInOrder}
 use Rattle.flit_table.specs.Views.{content_of, reads_in, updates_seen}
-use Rattle.flit_table.specs.Moves.{first_in, over_at, entering, having_moved, having_rested}
+use Rattle.flit_table.specs.Moves.{HasNoneQueued, EntersUnqueued, first_in, over_at, entering, having_moved, having_rested}
 
 module _ {Op : Type 0} (meaning : Meaning Op) where
   -- an operation was told the answer of its event
@@ -65,6 +65,8 @@ module _ {S Op : Type 0} (meaning : Meaning Op) where
     pub within : (d : Event) → asked_by meaning moved.post.worker ≡ Some d → IsWithin meaning.layout d
     pub replied : IsRepliedIn o moved.log moved.post.worker.name moved.post.worker.number moved.post.worker.doing
     pub trying : IsTrying meaning moved.post moved.post.worker.doing
+    -- with one worker the event has queued nothing, nor does what may begin behind it
+    pub queued : meaning.layout.workers ≡ 1 → HasNoneQueued meaning moved.post × EntersUnqueued meaning w.post
     pub legal : IsLegal (content_of o) (updates_seen w)
     -- and that the calls of each name stand in order in what has been seen
     pub order : AreInOrder w

@@ -19,7 +19,7 @@ ghost use Rattle.flit_table.specs.declared.views.View.{View};
 ghost use Rattle.flit_table.specs.Logs.{progress_of, settled_in, logged_by};
 ghost use Rattle.flit_table.specs.Orders.{StandInOrder, AreInOrder};
 ghost use Rattle.flit_table.specs.Views.{opening_of, content_of, posts_of, updates_seen, history_seen, all_workers, keeper, heir, both, spent};
-ghost use Rattle.flit_table.specs.Moves.{MayEnter, entering, having_moved, having_rested, first_in};
+ghost use Rattle.flit_table.specs.Moves.{MayEnter, HasNoneQueued, entering, having_moved, having_rested, first_in};
 ghost use Rattle.flit_table.specs.Rule.{Kept, first_view};
 
 use flit_structure::Structure;
@@ -74,7 +74,8 @@ pub fn seats_keep<S: Structure>()
 
 /// Under the rule every crash image is lawful, and has the map after the settled updates and those that it takes; the
 /// names of all views are different; what a pass has seen begins the settled updates and is legal, with its reads; and the
-/// completed calls of each of its names stand once and in order in what it has seen, and among all settled updates.
+/// completed calls of each of its names stand once and in order in what it has seen, and among all settled updates. With
+/// one worker nothing is queued.
 pub fn rule_says<S: Structure>()
     ensures crash { (o : Origin S) (m : State) (log : List Logged) (views : List (View S S.Op))
         (picks : ℕ → Bool) → Kept (S.meaning o.structure.value) o m log views →
@@ -96,4 +97,8 @@ pub fn rule_says<S: Structure>()
         (v : View S S.Op) → Kept (S.meaning o.structure.value) o m log (a ++ v ∷ b) →
         AreInOrder v × AllByRecursion (λ p. StandInOrder (history_of (settled_in log) v.placed)
         v.mine p.worker) (posts_of v) }
+    ensures queued { (o : Origin S) (m : State) (log : List Logged) (a b : List (View S S.Op))
+        (v : View S S.Op) → Kept (S.meaning o.structure.value) o m log (a ++ v ∷ b) →
+        (S.meaning o.structure.value).layout.workers ≡ 1 →
+        AllByRecursion (HasNoneQueued (S.meaning o.structure.value)) (posts_of v) }
 {}

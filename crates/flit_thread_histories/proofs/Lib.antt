@@ -5,3 +5,4 @@ pub mod ToldWorkers
 pub mod Promised
 pub mod EndsOrder
 pub mod Reported
+pub mod Unqueued

@@ -21,11 +21,12 @@ use Rattle.flit_table.specs.declared.told.Known.{Known}
 use Rattle.flit_table.specs.declared.views.Made.{Made}
 use Rattle.flit_table.specs.declared.views.Origin.{Origin}
 use Rattle.flit_table.specs.Closing.{Closes, TellsAllNames, picks_of, known_in}
+use Rattle.flit_table.specs.Moves.{HasNoneQueued}
 use Rattle.flit_table.specs.Orders.{entries_in, AreInOrder}
-use Rattle.flit_table.specs.Passes.{view_of}
+use Rattle.flit_table.specs.Passes.{view_of, waiting_view}
 use Rattle.flit_table.specs.Rule.{first_view}
 use Rattle.flit_table.specs.Steps.{Home, meaning_of}
-use Rattle.flit_table.specs.Views.{content_of, answered, made_by, entries_of}
+use Rattle.flit_table.specs.Views.{content_of, answered, made_by, entries_of, posts_of}
 use Rattle.flit_workers.specs.declared.ends.End.{End}
 use Rattle.flit_workers.specs.Ends.{AllInOrder, HaveEnded}
 use Rattle.flit_workers.specs.Gathered.{HasGathered}
@@ -114,3 +115,12 @@ module _ {S Op : Type 0} (meanings : S → Meaning Op) where
   abbrev pub EndsInOrder : Type 0
   EndsInOrder = (home : Home S) (works : List Work) (ends : List (End S Op)) →
       HaveEnded meanings home (first_view (meaning_of meanings home) home.origin) works ends → AllByRecursion (λ e. AreInOrder (view_of e.pass)) ends
+
+  -- With one worker nothing was queued, where workers that began as the structure was opened have ended, one pass has gathered
+  -- theirs and was closed: not by a worker, with what it waits to begin where it was stopped before its call's first event;
+  -- nor by a worker that the closed pass has.
+  abbrev pub OneWorkerQueuesNothing : Type 0
+  OneWorkerQueuesNothing = (home : Home S) (works : List Work) (ends : List (End S Op)) (pass : Pass S Op) (ahead : Ahead) (image : Image) →
+      HaveRun home works ends pass ahead image → (meaning_of meanings home).layout.workers ≡ 1 →
+      AllByRecursion (λ e. HasNoneQueued (meaning_of meanings home) (waiting_view (meaning_of meanings home) e.pass).post) ends
+      × AllByRecursion (HasNoneQueued (meaning_of meanings home)) (posts_of (view_of pass))

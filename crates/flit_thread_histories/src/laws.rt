@@ -1,5 +1,5 @@
 ghost use Rattle.flit_table.specs.declared.views.Origin.{Origin as An_origin};
-ghost use Rattle.flit_thread_histories.specs.Promises.{EndsInOrder, ThreadsKeepPromises};
+ghost use Rattle.flit_thread_histories.specs.Promises.{EndsInOrder, OneWorkerQueuesNothing, ThreadsKeepPromises};
 ghost use Rattle.flit_thread_histories.specs.Reports.{PromisesTellRuns};
 
 use flit_structure::Structure;
@@ -17,6 +17,12 @@ pub fn ends_in_order<S: Structure>()
 /// bounds.
 pub fn threads_keep_promises<S: Structure>()
     ensures { ThreadsKeepPromises S.meaning }
+{}
+
+/// With one worker nothing was queued: the tally of its pass says so at its end, and that of each worker that the gathered
+/// pass had as it was closed.
+pub fn one_worker_queues_nothing<S: Structure>()
+    ensures { OneWorkerQueuesNothing S.meaning }
 {}
 
 /// Where the image takes no value ahead, each sentence of a report is told apart: the map that recovery finds is that after

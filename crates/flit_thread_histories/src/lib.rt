@@ -3,4 +3,6 @@
 
 mod laws;
 
-pub use laws::{ends_in_order, promises_tell_runs, threads_keep_promises};
+pub use laws::{
+    ends_in_order, one_worker_queues_nothing, promises_tell_runs, threads_keep_promises,
+};

@@ -1,6 +1,6 @@
 use Rattle.flit_table.specs.Rule.{moment_of}
 use Rattle.flit_table.specs.Views.{all_workers}
-use Rattle.flit_table.proofs.Saying.{seen_first, seen_legal, history_legal, history_map, in_order, whole_order}
+use Rattle.flit_table.proofs.Saying.{here, seen_first, seen_legal, history_legal, history_map, in_order, whole_order}
 use Rattle.flit_table.proofs.rule_laws.rule_says.Goals as goal
 
 pub returns-clause-crash : goal.returns-clause-crash
@@ -27,3 +27,6 @@ returns-clause-order g c = λ o m log a b v k. (
   in_order (g.S.Structure.meaning o.structure.value) (g.met.S.Structure.lawful o.structure.value) o m log a b v k,
   whole_order (g.S.Structure.meaning o.structure.value) (g.met.S.Structure.lawful o.structure.value) o m log a b v k,
 )
+
+pub returns-clause-queued : goal.returns-clause-queued
+returns-clause-queued g c = λ o m log a b v k. (here (g.S.Structure.meaning o.structure.value) (g.met.S.Structure.lawful o.structure.value) o m log a b v k).queued
