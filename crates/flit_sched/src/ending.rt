@@ -73,6 +73,8 @@ pub(crate) fn end_turn<S: Structure>(
     ensures ended { HasEnded (S.meaning structure.now) player.new.worker.at }
 {
     let end = take(structure, &mut player.worker, settled, answer);
-    player.left = player.left.map(|left| left.saturating_sub(1));
+    if let Some(left) = &mut player.left {
+        *left = left.saturating_sub(1);
+    }
     note_end(player, end)
 }

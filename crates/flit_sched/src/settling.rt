@@ -69,6 +69,7 @@ fn waiting_at<W>(players: &[Player<W>], waiters: &[u8], word: u32) -> Option<(us
 }
 
 /// Where a Persist raises a shadow, the entry that waits there is settled, and the book is kept up.
+#[inline(always)]
 pub(crate) fn settle<W>(
     players: &mut Vec<Player<W>>,
     waiters: &[u8],

@@ -151,22 +151,18 @@ pub(crate) fn take<S: Structure>(
     match &mut seat.at {
         At::New => End::NotYet,
         At::Call { op, under_way } => {
-            let Some(going) = *under_way else {
+            let Some(going) = under_way else {
                 return End::NotYet;
             };
             structure.take(op, answer);
-            let first = going.begun.unwrap_or(settled);
+            let first = *going.begun.get_or_insert(settled);
             let call = going.call;
             match structure.reply(op) {
                 Some(reply) => {
                     *under_way = None;
                     End::Replied { call, first, reply }
                 }
-                None => {
-                    let begun = Some(first);
-                    *under_way = Some(UnderWay { call, begun });
-                    End::NotYet
-                }
+                None => End::NotYet,
             }
         }
         At::Evict { evict, over } => {

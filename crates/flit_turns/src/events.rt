@@ -13,6 +13,7 @@ pub struct Events {
 
 impl Events {
     /// Keeps an event, where events are wanted.
+    #[inline(always)]
     pub(crate) fn show(&mut self, event: Shown) -> Result<(), NoMemory>
         ensures kept { self.new.kept ≡ self.old.kept }
         ensures shown { IfOk result (λ done. self.new.shown.items ≡ self.old.shown.items
