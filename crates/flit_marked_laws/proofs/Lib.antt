@@ -1,0 +1,17 @@
+pub mod Strengthening
+pub mod Writes
+pub mod Marking
+pub mod Naming
+pub mod Ties
+pub mod Lasting
+pub mod Since
+pub mod Marks
+pub mod Taking
+pub mod Remainders
+pub mod Shadows
+pub mod Paths
+pub mod Resting
+pub mod Links
+pub mod Crashes
+pub mod Showing
+pub mod MarkedLists
