@@ -1,17 +1,10 @@
--- Lines of turns to their end, and what recovery of the image finds.
-use Rattle.std.proofs.Common.{◌≡◌, ◌⊎◌, inl, inr, ℕ, zero, suc, ◌<◌, ◌≤◌, List, [], ◌∷◌, ◌++◌, refl, sym, ◌∙◌, ap, subst, arith, Option, Some, None, ◌-◌}
+-- Lines of turns to their end.
+use Rattle.std.proofs.Common.{◌≡◌, ◌⊎◌, inl, inr, ℕ, zero, suc, ◌<◌, ◌≤◌, List, [], ◌∷◌, ◌++◌, refl, sym, ◌∙◌, subst, arith, Option, Some, None, ◌-◌}
 use Rattle.std.proofs.lemmas.Bool.{cases_lt}
-use Rattle.std.specs.FinMap as fin
-use Rattle.flit_words.specs.declared.layouts.Layout.{Layout}
-use Rattle.flit_model.specs.AboutImages.{OneMap}
-use Rattle.flit_model.specs.Maps.{Map}
-use Rattle.flit_model.specs.Recovery.{SameShape, IsRecovery}
 use Rattle.flit_structure.specs.Meanings.{Meaning}
-use Rattle.flit_structure.specs.Lawful.{HasMap}
 use Rattle.flit_sched.specs.Runs.{Part, Run}
 use Rattle.flit_sched.specs.Turns.{IsOut}
 use Rattle.flit_sched.specs.Views.{OfWorker}
-use Rattle.flit_sched.proofs.ShapeLaws.{same_shape_recovery}
 use Rattle.flit_histories.specs.Following.{Given}
 use Rattle.flit_histories.specs.TurnLaws.{IsLeftBy}
 use Rattle.flit_histories.proofs.LedParts.{out_follows}
@@ -79,11 +72,3 @@ stop_kept (Some n) made p h (inr none) =
     let zero_left : n - made ≡ 0 = cc in
     let le = h.0 in
     inl (omega (arith, zero_left, le))
-
--- recovery finds the one map, also by another layout of the same words
-pub map_found : OneMap → (l k : Layout) (words keys values free : List ℕ) (m : Map) → SameShape l k → HasMap k words m →
-    IsRecovery l words keys values free → (keys ≡ fin.keys m) × (values ≡ fin.values m)
-map_found one l k words keys values free m same h r =
-    let own = same_shape_recovery l k words keys values free same r in
-    let is = one k words own.map m free h.0 own.recovers h.1 in
-    (own.keys_are ∙ ap fin.keys is, own.values_are ∙ ap fin.values is)

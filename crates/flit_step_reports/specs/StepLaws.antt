@@ -1,29 +1,18 @@
--- What is so of the runs of traces, and of the reports that tell them.
-use Rattle.std.specs.Prelude.{◌≡◌, ◌⊎◌, ℕ, ◌≤◌, Bool, List, length, Option, Some, None}
-use Rattle.std.specs.FinMap as map_of_pairs
-use Rattle.flit_model.specs.Maps.{IsLegal, map_after_all}
-use Rattle.flit_model.specs.Recovery.{SameShape}
+-- What is so of the runs of traces.
+use Rattle.std.specs.Prelude.{◌≡◌, ◌⊎◌, ℕ, ◌≤◌, List, length, Option, Some, None}
 use Rattle.flit_model.specs.declared.calls.Work.{Work}
 use Rattle.flit_model.specs.declared.found.Recovered.{Recovered}
 use Rattle.flit_structure.specs.Meanings.{Meaning}
 use Rattle.flit_trace.specs.Contents.{Content}
-use Rattle.flit_report.specs.Content.{Content as Told}
 use Rattle.flit_sched.specs.Runs.{Part, Run, IsPart}
-use Rattle.flit_sched.specs.Openings.{content_of, opened_run}
+use Rattle.flit_sched.specs.Openings.{opened_run}
 use Rattle.flit_sched.specs.Turns.{IsOut}
 use Rattle.flit_sched.specs.Views.{OfWorker}
 use Rattle.flit_histories.specs.Following.{Given, Follows}
 use Rattle.flit_histories.specs.Reached.{IsStart}
 use Rattle.flit_histories.specs.TurnLaws.{events_by}
 use Rattle.flit_turns.specs.Lines.{FollowsLines}
-use Rattle.flit_step_reports.specs.StepReports.{AreWorksOf, plan_of, IsRunOf, IsReportOf}
-
--- the history that is told is legal from the map at the start, and the keys and values that are told are those of the map
--- after it
-pub record SaysItsMap (start : Recovered) (told : Told) : Type 0 where
-  pub legal : IsLegal (content_of start.keys.items start.values.items) told.history
-  pub keys : told.keys ≡ map_of_pairs.keys (map_after_all (content_of start.keys.items start.values.items) told.history)
-  pub values : told.values ≡ map_of_pairs.values (map_after_all (content_of start.keys.items start.values.items) told.history)
+use Rattle.flit_step_reports.specs.StepReports.{AreWorksOf, plan_of, IsRunOf}
 
 -- at the end of a run a worker without a stop has done all its items; with a stop it has made as many events as this says,
 -- or fewer, and then it has done all its items
@@ -43,8 +32,3 @@ module _ {Op : Type 0} (meaning : Meaning Op) where
     pub stops : (t : Content) (r final : Run Op) (given : List Given) (worker : ℕ) (first p : Part Op) (a b c d : List (Part Op)) →
         FollowsLines meaning r (plan_of t) given final → worker ≤ t.head.layout.workers → IsPart r worker a first b → IsPart final worker c p d →
         HasKeptStop first.left (events_by worker given) p
-
-  -- A report of the run of a trace says its map.
-  abbrev pub ReportsSayTheirMap : Type 0
-  ReportsSayTheirMap = (t : Content) (shows : Bool) (start : Recovered) (told : Told) → SameShape t.head.layout meaning.layout →
-      IsReportOf meaning t shows start told → SaysItsMap start told

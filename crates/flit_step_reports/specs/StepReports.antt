@@ -17,7 +17,7 @@ use Rattle.flit_trace.specs.declared.heads.Head.{Head}
 use Rattle.flit_trace.specs.Contents.{Content, ItemLine, script_of}
 use Rattle.flit_trace.specs.Drafts.{stop_of}
 use Rattle.flit_report.specs.declared.content.Line.{Line as Told_line}
-use Rattle.flit_report.specs.Content.{Content as Told, text_of}
+use Rattle.flit_report.specs.Content.{Content as Told}
 use Rattle.flit_sched.specs.Runs.{Part, Run}
 use Rattle.flit_sched.specs.Openings.{opened_run}
 use Rattle.flit_sched.specs.Turns.{tally_in}
@@ -123,12 +123,3 @@ pub record IsReportOf {Op : Type 0} (meaning : Meaning Op) (t : Content) (shows 
   pub history : told.history ≡ history_with final (picks_in t)
   pub tallies : told.tallies ≡ map (λ p. tally_in meaning p.worker.doing) final.parts
   pub recovered : TellsRecovery t.head.layout (crash_image (picks_in t) final.state) told
-
--- a text is that of the report of the run of a trace's own structure
-pub record IsStepText (structure_in : Choice) (t : Content) (shows summary : Bool) (text : List ℕ) : Type 0 where
-  pub start : Recovered
-  pub starts : StartsAt t start
-  pub told : Told
-  pub is : IsReportOf (structure_in t.head start.free.items).meaning t shows start told
-  pub summary_is : told.summary ≡ summary
-  pub text_is : text ≡ text_of told

@@ -1,7 +1,6 @@
-ghost use Rattle.flit_step_reports.specs.StepLaws.{PlansAreRuns, ReportsSayTheirMap};
+ghost use Rattle.flit_step_reports.specs.StepLaws.{PlansAreRuns};
 
 use flit_headline::runs_keep_headline;
-use flit_model::one_recovery;
 use flit_structure::Structure;
 
 /// The turns of a trace's lines, given from an opening on, are a run of the trace, which keeps the headline. At its end
@@ -11,11 +10,4 @@ pub fn plans_are_runs<S: Structure>()
     ensures { (s : S) → PlansAreRuns (S.meaning s) }
 {
     runs_keep_headline::<S>();
-}
-
-/// A report of the run of a trace tells a legal history, and the keys and values of the map after it.
-pub fn reports_say_their_map<S: Structure>()
-    ensures { (s : S) → ReportsSayTheirMap (S.meaning s) }
-{
-    one_recovery();
 }

@@ -3,4 +3,4 @@
 
 mod laws;
 
-pub use laws::{plans_are_runs, reports_say_their_map};
+pub use laws::plans_are_runs;

@@ -1,0 +1,10 @@
+pub mod OwnLines
+pub mod OwnParts
+pub mod MadeEvents
+pub mod TurnedEvents
+pub mod FittingReplies
+pub mod PrintedCalls
+pub mod PrintedBounds
+pub mod PaidSearches
+pub mod BegunCalls
+pub mod Printed

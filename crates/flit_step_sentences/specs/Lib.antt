@@ -1,0 +1,5 @@
+pub mod Lines
+pub mod Machines
+pub mod Sentences
+pub mod SayLaws
+pub mod StepTexts
