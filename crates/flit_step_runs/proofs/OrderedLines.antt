@@ -1,9 +1,8 @@
 -- Told lines in the order of their numbers.
-use Rattle.std.proofs.Common.{◌≡◌, ℕ, zero, suc, ◌+◌, ◌≤◌, ◌<◌, ◌==◌, ◌&&◌, ◌++◌, Bool, true, false, cond, not, List, [], ◌∷◌, map, filter, flat_map, length, get_or, nat_lt, nat_cmp, Less, Equal, Greater, refl, sym, ◌∙◌, ap, arith}
+use Rattle.std.proofs.Common.{◌≡◌, ℕ, zero, suc, ◌+◌, ◌≤◌, ◌<◌, ◌==◌, ◌&&◌, ◌++◌, Bool, true, false, cond, not, List, [], ◌∷◌, map, filter, flat_map, get_or, nat_lt, nat_cmp, Less, Equal, Greater, refl, sym, ◌∙◌, ap, arith}
 use Rattle.std.proofs.lemmas.Bool.{ltb-true, ltb-false, le-ltb}
 use Rattle.std.specs.List.{AllByRecursion, range_with_len}
 use Rattle.std.specs.Ordering.{is_lt}
-use Rattle.std.specs.List.Sorted.{ties}
 use Rattle.flit_model.specs.Lists.{IsRisingFrom}
 use Rattle.flit_model.specs.declared.calls.Item.{Item}
 use Rattle.flit_model.specs.declared.calls.Item.TheVariants.{Call as Call_item, Evict as Evict_item}
@@ -15,7 +14,7 @@ use Rattle.flit_words.specs.declared.layouts.Layout.{Layout}
 use Rattle.flit_sched.specs.Runs.{Run}
 use Rattle.flit_sched.proofs.StableOrders.{Below, Up, IsOrder, up_of, one_order, tie}
 use Rattle.flit_step_reports.specs.StepReports.{lines_by, outcome_in, told_lines}
-use Rattle.flit_step_runs.specs.Tellings.{numbered_item, numbered_script}
+use Rattle.flit_step_runs.specs.Tellings.{numbered_item, numbered_script, IsInLineOrder}
 use Rattle.flit_step_runs.proofs.MergedLines.{AreFrom, from_lower, numbered_lines, part, lines_from, lines_stripped, merged}
 
 -- a line isn't below another one
@@ -30,7 +29,7 @@ lt_is a b = by_tests (nat_lt a b) (a == b)
     by_tests false true = refl
     by_tests false false = refl
 
-upto_le : (x y : ℕ × Line) → is_upto x y ≡ true → x.0 ≤ y.0
+pub upto_le : (x y : ℕ × Line) → is_upto x y ≡ true → x.0 ≤ y.0
 upto_le x y h = by_test (nat_lt y.0 x.0) refl
   where
     by_test : (b : Bool) → nat_lt y.0 x.0 ≡ b → x.0 ≤ y.0
@@ -40,7 +39,7 @@ upto_le x y h = by_test (nat_lt y.0 x.0) refl
 le_upto : (x y : ℕ × Line) → x.0 ≤ y.0 → is_upto x y ≡ true
 le_upto x y h = ap not (lt_is y.0 x.0 ∙ le-ltb y.0 x.0 h)
 
-order : IsOrder is_upto
+pub order : IsOrder is_upto
 order = record {
   total = λ x y h. le_upto y x (below x y h);
   on = λ x y z h k. let one = upto_le x y h in let two = upto_le y z k in le_upto x z (omega (arith, one, two));
@@ -54,7 +53,12 @@ order = record {
         by_test true e = let less = ltb-true y.0 x.0 e in omega (arith, less)
         by_test false e = absurd (let no : not false ≡ false = ap not (sym (lt_is y.0 x.0 ∙ e)) ∙ h in let none : ⊥ = cc in none)
 
-below_from : (x : ℕ × Line) (xs : List (ℕ × Line)) → AreFrom x.0 xs → Below is_upto x xs
+-- lines that stand in the order of their numbers rise by them
+pub lines_rise : (told : List (ℕ × Line)) (lines : List Line) (h : IsInLineOrder told lines) → Up is_upto h.sorted
+lines_rise told lines h = up_of is_upto order h.sorted (λ k d b. let one : suc k ≡ k + 1 = omega arith in
+    ap not (ap (λ n. is_lt (nat_cmp (get_or h.sorted n d).0 (get_or h.sorted k d).0)) one ∙ h.rises k d (omega arith) (omega (arith, b))))
+
+pub below_from : (x : ℕ × Line) (xs : List (ℕ × Line)) → AreFrom x.0 xs → Below is_upto x xs
 below_from x [] h = tt
 below_from x (y ∷ ys) h = (le_upto x y h.0, below_from x ys h.1)
 
@@ -96,22 +100,18 @@ module _ {Op : Type 0} (r : Run Op) where
   named l [] h = tt
   named l (i ∷ is) h = ((h.0.0, h.0.1), named l is h.1)
 
-  -- what was told of the workers' lines, sorted by numbers, is what is to be told
-  pub sorted_told : (trace : SeenTrace) (t : Content) (told sorted : List (ℕ × Line)) → Shows trace t → IsRisingFrom 1 (lines_of_items t.items) →
-      AllByRecursion (IsRightLine t.head.layout) t.items →
-      told ≡ flat_map (λ v. numbered_script r v 0 (script_at trace v)) (range_with_len 1 trace.head.layout.workers) →
-      ((k : ℕ) (d : ℕ × Line) → 0 ≤ k → k + 1 < length sorted → is_lt (nat_cmp (get_or sorted (k + 1) d).0 (get_or sorted k d).0) ≡ false) →
-      ((x : ℕ × Line) → filter (ties (λ q s. is_lt (nat_cmp q.0 s.0)) x) sorted ≡ filter (ties (λ q s. is_lt (nat_cmp q.0 s.0)) x) told) →
-      map (λ l. l.1) sorted ≡ told_lines r [] t.items
-  sorted_told trace t told sorted shows rising lines is up still =
+  -- what was told of the workers' lines, in the order of their numbers, is what is to be told
+  pub ordered_told : (trace : SeenTrace) (t : Content) (told : List (ℕ × Line)) (lines : List Line) → Shows trace t →
+      IsRisingFrom 1 (lines_of_items t.items) → AllByRecursion (IsRightLine t.head.layout) t.items →
+      told ≡ flat_map (λ v. numbered_script r v 0 (script_at trace v)) (range_with_len 1 trace.head.layout.workers) → IsInLineOrder told lines →
+      lines ≡ told_lines r [] t.items
+  ordered_told trace t told lines shows rising right is h =
       let workers = ap (λ h. h.layout.workers) shows.head in
       let all : told ≡ flat_map (part r [] t.items) (range_with_len 1 t.head.layout.workers) =
       is ∙ scripts_same trace t shows 1 trace.head.layout.workers (omega arith) (omega arith)
       ∙ ap (λ n. flat_map (part r [] t.items) (range_with_len 1 n)) workers in
-      ap (map (λ l. l.1)) (one_order is_upto order sorted (numbered_lines r [] t.items)
-      (up_of is_upto order sorted (λ k d b. let one : suc k ≡ k + 1 = omega arith in
-      ap not (ap (λ n. is_lt (nat_cmp (get_or sorted n d).0 (get_or sorted k d).0)) one ∙ up k d (omega arith) (omega (arith, b)))))
+      h.lines_are ∙ ap (map (λ l. l.1)) (one_order is_upto order h.sorted (numbered_lines r [] t.items) (lines_rise told lines h)
       (up_lines 1 [] t.items rising)
-      (λ x. still x ∙ ap (filter (tie is_upto x)) all
-      ∙ merged r (tie is_upto x) x.0 (tie_one x) 1 [] t.items t.head.layout.workers rising (named t.head.layout t.items lines)))
+      (λ x. h.stable x ∙ ap (filter (tie is_upto x)) all
+      ∙ merged r (tie is_upto x) x.0 (tie_one x) 1 [] t.items t.head.layout.workers rising (named t.head.layout t.items right)))
       ∙ lines_stripped r [] t.items

@@ -1,5 +1,7 @@
 -- What is told of the lines of a trace, each with its number.
-use Rattle.std.specs.Prelude.{◌≡◌, ℕ, ◌+◌, ◌≤◌, List, [], ◌∷◌, ◌++◌, map, length}
+use Rattle.std.specs.Prelude.{◌≡◌, ℕ, ◌+◌, ◌≤◌, List, [], ◌∷◌, ◌++◌, map, length, IsSortedByKey}
+use Rattle.std.specs.List.Sorted.{IsStableByKey}
+use Rattle.std.specs.Ordering.{nat_cmp}
 use Rattle.flit_words.specs.declared.limits.TheConstants.{MOST_CALLS}
 use Rattle.flit_model.specs.declared.calls.Item.{Item}
 use Rattle.flit_report.specs.declared.content.Line.{Line}
@@ -22,3 +24,10 @@ pub record HoldsScripts {Op : Type 0} (trace : SeenTrace) (r : Run Op) : Type 0 
   pub long : length r.parts ≡ trace.head.layout.workers
   pub items : (worker : ℕ) → IsWorker trace worker → OfWorker r worker (λ p. length p.items ≡ length (script_at trace worker))
   pub few : (worker : ℕ) → IsWorker trace worker → length (script_at trace worker) ≤ MOST_CALLS
+
+-- these lines are some numbered ones in the order of their numbers, and without these; those of one number stand as they stood
+pub record IsInLineOrder (told : List (ℕ × Line)) (lines : List Line) : Type 0 where
+  pub sorted : List (ℕ × Line)
+  pub rises : IsSortedByKey (λ l. l.0) nat_cmp sorted
+  pub stable : IsStableByKey (λ l. l.0) nat_cmp told sorted
+  pub lines_are : lines ≡ map (λ l. l.1) sorted

@@ -8,9 +8,9 @@ mod reports;
 mod telling;
 mod works;
 
-pub use lines::lines_of;
+pub use lines::{in_line_order, lines_of};
 pub use opened::run_of;
 pub use playing::play;
 pub use reports::report_of_run;
-pub use telling::tell;
+pub use telling::{count_rows, tell, version_of};
 pub use works::works_of;

@@ -7,7 +7,7 @@ ghost use Rattle.flit_trace.specs.Rights.{IsRightLine, lines_of_items};
 ghost use Rattle.flit_trace.specs.SeenTraces.{Shows, script_at};
 ghost use Rattle.flit_sched.specs.Views.{HasWorker, OfWorker};
 ghost use Rattle.flit_step_reports.specs.StepReports.{outcome_in, told_lines};
-ghost use Rattle.flit_step_runs.specs.Tellings.{numbered_item, numbered_script, HoldsScripts};
+ghost use Rattle.flit_step_runs.specs.Tellings.{numbered_item, numbered_script, HoldsScripts, IsInLineOrder};
 
 use flit_model::{Item, Outcome};
 use flit_report::Line;
@@ -105,6 +105,16 @@ fn without_numbers(alloc: Global, told: &[(u32, Line)]) -> Result<Vec<Line>, NoM
     Ok(lines)
 }
 
+/// Lines in the order of their numbers, which are taken off; lines of one number stay in their order. The error is
+/// NoMemory alone.
+pub fn in_line_order(alloc: Global, mut told: Vec<(u32, Line)>) -> Result<Vec<Line>, NoMemory>
+    ensures { IfOk result (λ lines. IsInLineOrder told.items lines.items) }
+{
+    told.sort_by_key(|line| line.0)?;
+    let lines = without_numbers(alloc, &told)?;
+    Ok(lines)
+}
+
 /// The lines of the report of a run on which a trace was played: of each call of the trace what became of it, in the
 /// order of the trace. The error is NoMemory alone.
 pub fn lines_of<S: Structure>(
@@ -118,8 +128,7 @@ pub fn lines_of<S: Structure>(
         AllByRecursion (IsRightLine t.head.layout) t.items →
         lines.items ≡ told_lines sched.now.run [] t.items) }
 {
-    let mut told = numbered_lines(alloc, sched, trace)?;
-    told.sort_by_key(|line| line.0)?;
-    let lines = without_numbers(alloc, &told)?;
+    let told = numbered_lines(alloc, sched, trace)?;
+    let lines = in_line_order(alloc, told)?;
     Ok(lines)
 }

@@ -31,14 +31,14 @@ fn tallies_of<S: Structure>(
 }
 
 /// The version of a report, by which the values show.
-fn version_of(layout: &Layout) -> u32
+pub fn version_of(layout: &Layout) -> u32
     ensures { result ≡ version_of layout.now }
 {
     if layout.values { 2 } else { 1 }
 }
 
 /// How many rows these are, where they are rows of a structure of so many.
-fn count_rows(free: &[u32], rows: u32) -> u32
+pub fn count_rows(free: &[u32], rows: u32) -> u32
     requires { length free.now ≤ rows }
     ensures { result ≡ length free.now }
 {
