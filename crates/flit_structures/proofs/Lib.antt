@@ -4,3 +4,7 @@ pub mod TraceOpenings
 pub mod TraceStarts
 pub mod ReportSteps
 pub mod PlacedReports
+pub mod WantedTexts
+pub mod RefusalLaws
+pub mod RightTraceLaws
+pub mod KindLaws

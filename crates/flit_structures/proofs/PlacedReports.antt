@@ -1,12 +1,10 @@
--- The report of a trace over a placement is that on the structure that the trace names.
-use Rattle.std.proofs.Common.{◌≡◌, ℕ, ◌≤◌, Bool, List, sym, subst, Result, IfOk}
+-- What is told of a trace over a placement is told of the structure that the trace names.
+use Rattle.std.proofs.Common.{◌≡◌, ℕ, ◌≤◌, List, sym, subst, Result, IfOk}
 use Rattle.std.proofs.lemmas.Result.{IfOk-weaker}
 use Rattle.flit_words.specs.declared.memory.NoMemory.{NoMemory}
 use Rattle.flit_model.specs.Recovery.{IsRecovery}
 use Rattle.flit_model.specs.declared.found.Recovered.{Recovered}
 use Rattle.flit_place.specs.Tags.{Place}
-use Rattle.flit_report.specs.declared.content.Report.{Report}
-use Rattle.flit_report.specs.Report.{content_of}
 use Rattle.flit_trace.specs.Contents.{Content}
 use Rattle.flit_trace.specs.Drafts.{IsPlace}
 use Rattle.flit_trace.specs.Grammar.{IsTrace}
@@ -14,12 +12,13 @@ use Rattle.flit_trace.specs.SeenTraces.{SeenTrace, Shows, IsReadAs}
 use Rattle.flit_trace.specs.declared.heads.Head.{Head}
 use Rattle.flit_trace.specs.declared.heads.Place.{Place as Trace_place}
 use Rattle.flit_trace.specs.declared.heads.Place.TheVariants.{Hashed}
-use Rattle.flit_step_reports.specs.StepReports.{IsReportOf}
 use Rattle.flit_step_runs.specs.Plays.{CanPlay, CanPlaySeen}
 use Rattle.flit_structures.specs.Openings.{TracesPlay}
-use Rattle.flit_structures.specs.Reports.{IsReportSeen, IsReportOfTrace}
+use Rattle.flit_structures.specs.Reports.{IsToldOfTrace}
+use Rattle.flit_structures.specs.Runs.{IsToldOf, IsToldSeen}
 use Rattle.flit_structures.specs.Starts.{StartsSeen}
 use Rattle.flit_structures.specs.Structures.{placing_of, structure_of, structure_in, IsPlayable}
+use Rattle.flit_structures.specs.declared.runs.Wanted.{Wanted}
 
 -- how many slots a hashed place has
 pub some_slots : (bytes : List ℕ) (trace : SeenTrace) (n : ℕ) → IsReadAs bytes trace → ((bs : List ℕ) (c : Content) → IsTrace bs c → IsPlace c.head.place) →
@@ -49,14 +48,14 @@ module _ (trace : SeenTrace) (start : Recovered) (playable : IsPlayable trace.he
       subst (λ x. CanPlaySeen (structure_of trace.head.layout x trace.head.layout.kind start.free.items).meaning start trace) is
       (read.content, read.shows, can_play plays bytes read.content read.is read.shows)
 
-  pub told_over : TracesPlay → (p : Place) (found : Result Report NoMemory) (shows : Bool) → placing_of trace.head.place ≡ p →
-      IfOk found (λ r. IsReportSeen (structure_of trace.head.layout p trace.head.layout.kind start.free.items).meaning trace shows start (content_of r)) →
-      IfOk found (λ r. IsReportOfTrace trace shows start (content_of r))
-  told_over plays p found shows is told =
-      IfOk-weaker found (λ r. IsReportSeen (structure_of trace.head.layout p trace.head.layout.kind start.free.items).meaning trace shows start (content_of r))
-      (λ r. IsReportOfTrace trace shows start (content_of r))
-      (λ r seen bytes t reads shown.
-      let here = subst (λ x. IsReportSeen (structure_of trace.head.layout x trace.head.layout.kind start.free.items).meaning trace shows start (content_of r))
+  pub told_over : TracesPlay → (p : Place) {X : Type 0} (items : X → List ℕ) (found : Result X NoMemory) (wanted : Wanted) → placing_of trace.head.place ≡ p →
+      IfOk found (λ x. IsToldSeen (structure_of trace.head.layout p trace.head.layout.kind start.free.items).meaning trace wanted start (items x)) →
+      IfOk found (λ x. IsToldOfTrace trace wanted start (items x))
+  told_over plays p items found wanted is told =
+      IfOk-weaker found (λ x. IsToldSeen (structure_of trace.head.layout p trace.head.layout.kind start.free.items).meaning trace wanted start (items x))
+      (λ x. IsToldOfTrace trace wanted start (items x))
+      (λ x seen bytes t reads shown.
+      let here = subst (λ y. IsToldSeen (structure_of trace.head.layout y trace.head.layout.kind start.free.items).meaning trace wanted start (items x))
       (sym is) seen in
-      subst (λ (h : Head). IsReportOf (structure_in h start.free.items).meaning t shows start (content_of r)) shown.head
+      subst (λ (h : Head). IsToldOf (structure_in h start.free.items).meaning t wanted start (items x)) shown.head
       (here t shown (can_play plays bytes t reads shown))) told

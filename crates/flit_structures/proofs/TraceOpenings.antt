@@ -1,5 +1,5 @@
 -- The structure that a trace names opens where the trace starts.
-use Rattle.std.proofs.Common.{◌≡◌, ℕ, ◌<◌, List, refl}
+use Rattle.std.proofs.Common.{◌≡◌, ℕ, ◌<◌, List, length, refl}
 use Rattle.flit_words.specs.declared.layouts.Kind.{Kind}
 use Rattle.flit_words.specs.declared.layouts.Kind.TheVariants.{List as List_kind, Hash, Tree}
 use Rattle.flit_words.specs.declared.layouts.Layout.{Layout}
@@ -38,3 +38,14 @@ pub shape : (kind : Kind) (l : Layout) (p : Place) (free : List ℕ) → SameSha
 shape List_kind l p free = record { kind = refl; buckets = refl; rows = refl; values = refl }
 shape Hash l p free = record { kind = refl; buckets = refl; rows = refl; values = refl }
 shape Tree l p free = record { kind = refl; buckets = refl; rows = refl; values = refl }
+
+-- it is of its layout, over these rows
+pub layout_is : (kind : Kind) (l : Layout) (p : Place) (free : List ℕ) → (structure_of l p kind free).meaning.layout ≡ l
+layout_is List_kind l p free = refl
+layout_is Hash l p free = refl
+layout_is Tree l p free = refl
+
+pub room_is : (kind : Kind) (l : Layout) (p : Place) (free : List ℕ) → (structure_of l p kind free).meaning.room ≡ length free
+room_is List_kind l p free = refl
+room_is Hash l p free = refl
+room_is Tree l p free = refl

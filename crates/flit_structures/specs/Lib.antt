@@ -1,5 +1,9 @@
 pub mod Structures
 pub mod Starts
 pub mod Openings
+pub mod Runs
 pub mod Reports
 pub mod Texts
+pub mod Refusals
+pub mod RightTraces
+pub mod Headlines

@@ -1,6 +1,6 @@
 -- The structure that a trace names: by its kind, over its layout, with its tags where the trace says, and with the rows that
 -- are free at the start.
-use Rattle.std.specs.Prelude.{◌≢◌, ℕ, ◌/◌, true, false, List, Some, None}
+use Rattle.std.specs.Prelude.{◌≡◌, ◌≢◌, ℕ, ◌/◌, true, false, List, length, Some, None}
 use Rattle.flit_words.specs.declared.layouts.Kind.{Kind}
 use Rattle.flit_words.specs.declared.layouts.Kind.TheVariants.{List as List_kind, Hash, Tree}
 use Rattle.flit_words.specs.declared.layouts.Layout.{Layout}
@@ -36,3 +36,8 @@ structure_in head free = structure_of head.layout (placing_of head.place) head.l
 -- a trace that is played; one with a slot for each line of eight words is not
 abbrev pub IsPlayable : Head → Type 0
 IsPlayable head = head.place ≢ Lines
+
+-- A trace's own structure has the layout of the trace, and was made over just so many rows as are free at the start.
+pub record RoomsAreFree : Type 0 where
+  pub layout : (head : Head) (free : List ℕ) → (structure_in head free).meaning.layout ≡ head.layout
+  pub room : (head : Head) (free : List ℕ) → (structure_in head free).meaning.room ≡ length free

@@ -3,12 +3,16 @@
 
 mod laws;
 mod reports;
+mod runs;
 mod starts;
 #[cfg(test)]
 mod tests;
 mod texts;
 
-pub use laws::{traces_open, traces_play};
-pub use reports::{Wanted, report};
+pub use laws::{
+    right_traces_are_answered, rooms_are_free, traces_open, traces_play, traces_say_headline,
+};
+pub use reports::told;
+pub use runs::{Wanted, image_of_run, text_of_run};
 pub use starts::start_of;
-pub use texts::{NoText, text_of_trace};
+pub use texts::{NoText, text_of_trace, trace_and_start};

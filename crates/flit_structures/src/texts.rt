@@ -1,14 +1,20 @@
 ghost use Rattle.std.specs.Prelude.{◌≡◌, ◌≢◌, IfOk, IfErr, IsTrue, IsFalse};
+ghost use Rattle.flit_trace.specs.SeenTraces.{IsReadAs};
+ghost use Rattle.flit_structures.specs.Refusals.{status_of_no_text};
+ghost use Rattle.flit_structures.specs.Starts.{StartsSeen};
+ghost use Rattle.flit_structures.specs.Structures.{IsPlayable};
 ghost use Rattle.flit_structures.specs.Texts.{IsTextOf, HasNoText};
 
-use crate::reports::{Wanted, report};
+use crate::laws::traces_say_headline;
+use crate::reports::told;
+use crate::runs::Wanted;
 use crate::starts::start_of;
-use flit_recover::Damage;
-use flit_report::report_text;
-use flit_trace::{Place, TraceError, read_trace};
+use flit_recover::{Damage, Recovered};
+use flit_statuses::Status;
+use flit_trace::{Place, Trace, TraceError, read_trace};
 use std::alloc::Global;
 
-/// Why there is no text of a report.
+/// Why there is no text of a trace's run.
 #[derive(Clone, Copy, Debug, PartialEq, Eq)]
 pub enum NoText {
     /// The bytes are no trace; this is their first fault.
@@ -19,6 +25,19 @@ pub enum NoText {
     Start(Damage),
     /// There was no memory.
     NoMemory,
+}
+
+impl From<NoText> for Status {
+    ghost from_gives = { λ none status. status ≡ status_of_no_text none };
+
+    fn from(none: NoText) -> Self {
+        match none {
+            NoText::Trace(error) => Status::from(error),
+            NoText::Unplayable => Status::BadTrace { line: 0 },
+            NoText::Start(damage) => Status::from(damage),
+            NoText::NoMemory => Status::NoMemory,
+        }
+    }
 }
 
 /// Whether traces with this place are played.
@@ -32,10 +51,15 @@ fn is_played(place: Place) -> bool
     }
 }
 
-/// The text of the report of the trace that the bytes are, on the structure that it names: the turns of its turn lines are
-/// given, and then each worker runs until it is out. NoMemory may come in the place of each other error.
-pub fn text_of_trace(alloc: Global, bytes: &[u8], wanted: Wanted) -> Result<Vec<u8>, NoText>
-    ensures text { IfOk result (λ text. IsTextOf bytes.now wanted.events wanted.summary text.items) }
+/// The trace that the bytes are, and what recovery finds where it starts.
+///
+/// # Errors
+/// The first fault of the bytes, then Unplayable, then the first damage of the start image. NoMemory may come in the place
+/// of each.
+pub fn trace_and_start(alloc: Global, bytes: &[u8]) -> Result<(Trace<'_>, Recovered), NoText>
+    ensures read { IfOk result (λ found. IsReadAs bytes.now found.0) }
+    ensures playable { IfOk result (λ found. IsPlayable found.0.head) }
+    ensures starts { IfOk result (λ found. StartsSeen found.0 found.1) }
     ensures none { IfErr result (HasNoText bytes.now) }
 {
     let trace = match read_trace(alloc, bytes) {
@@ -57,10 +81,21 @@ pub fn text_of_trace(alloc: Global, bytes: &[u8], wanted: Wanted) -> Result<Vec<
             _ => return Err(NoText::Start(damage)),
         },
     };
-    let Ok(report) = report(alloc, &start, &trace, wanted) else {
-        return Err(NoText::NoMemory);
-    };
-    let Ok(text) = report_text(alloc, &report) else {
+    Ok((trace, start))
+}
+
+/// The text that is wanted of the trace that the bytes are, of its run on the structure that it names: the turns of its turn
+/// lines are given, and then each worker runs until it is out.
+///
+/// # Errors
+/// Those of `trace_and_start`, in the same order.
+pub fn text_of_trace(alloc: Global, bytes: &[u8], wanted: Wanted) -> Result<Vec<u8>, NoText>
+    ensures text { IfOk result (λ text. IsTextOf bytes.now wanted text.items) }
+    ensures none { IfErr result (HasNoText bytes.now) }
+{
+    traces_say_headline();
+    let found = trace_and_start(alloc, bytes)?;
+    let Ok(text) = told(alloc, &found.1, &found.0, wanted) else {
         return Err(NoText::NoMemory);
     };
     Ok(text)
