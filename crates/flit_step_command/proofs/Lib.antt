@@ -1,3 +1,2 @@
-pub mod PlayLaws
+pub mod CompleteLaws
 pub mod StepLaws
-pub mod PlainLaws

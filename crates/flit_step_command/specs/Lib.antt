@@ -1,3 +1,2 @@
-pub mod Plays
-pub mod SeenPlain
 pub mod Stepping
+pub mod Completeness

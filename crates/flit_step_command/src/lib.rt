@@ -1,9 +1,6 @@
-//! The command `step`, from the text of a trace to the report that is written.
+//! The command `step`, from the text of a trace to what is written of its run.
 #![tactic(auto)]
 
-mod plain;
-mod plays;
 mod step;
 
-pub use plays::plays_are_legal;
 pub use step::flit_step;

@@ -1,86 +1,116 @@
-ghost use Rattle.std.specs.Prelude.{◌≡◌, ◌≢◌, None, IfOk, IfErr, IfSome, ◌↔◌};
+ghost use Rattle.std.specs.Prelude.{◌≡◌, ◌⊎◌, ◌↔◌, Some, IfOk, IfErr, IfSome, IfNone};
 ghost use Rattle.flit_commands.specs.declared.commands.Command.TheVariants.{Step};
+ghost use Rattle.flit_commands.specs.declared.commands.StepOption.TheVariants.{Detect};
 ghost use Rattle.flit_commands.specs.CommandWords.{said_by};
 ghost use Rattle.flit_statuses.specs.Statuses.{WritesNothing};
 ghost use Rattle.flit_statuses.specs.Reading.{LeavesInput, CountsReads};
 ghost use Rattle.flit_statuses.specs.Writing.{CountsWrites};
-ghost use Rattle.flit_statuses.specs.Answers.{IsOfBytes, Blames, WroteAnswer};
-ghost use Rattle.flit_step_command.specs.Stepping.{IsReportOf, HasNoReport};
+ghost use Rattle.flit_statuses.specs.Answers.{IsOfBytes, Blames};
+ghost use Rattle.flit_structures.specs.Refusals.{HasNoReport};
+ghost use Rattle.flit_structures.specs.Texts.{IsTextOf};
+ghost use Rattle.flit_step_command.specs.Stepping.{words_for, NamesNoStep, WroteWanted};
+ghost use Rattle.flit_step_command.specs.Completeness.{CanComplete};
 
-use crate::plain::plain_keys;
-use crate::plays::report_of_inserts;
 use flit_commands::Words;
 use flit_outside::{Sink, Source};
-use flit_report::report_text;
 use flit_statuses::{Answering, Status, answer_input};
-use flit_trace::read_trace;
+use flit_structures::{Wanted, right_traces_are_answered, text_of_trace};
 use std::alloc::Global;
 
 #[cfg(test)]
 mod tests;
 
-/// The report of the plain trace that the bytes are.
-fn report_of_trace(alloc: Global, bytes: &[u8]) -> Result<Vec<u8>, Status>
-    ensures text { IfOk result (λ text. IsReportOf bytes.now text.items) }
-    ensures fault { IfErr result (HasNoReport bytes.now) }
+/// What the words want of `step`. None comes where they are other words, and for `step --detect`, which isn't there yet. It
+/// takes no memory.
+fn wanted_by(words: &Words) -> Option<Wanted>
+    ensures some { IfSome result (λ wanted. words.now ≡ words_for wanted) }
+    ensures none { IfNone result (NamesNoStep words.now) }
 {
-    let trace = read_trace(alloc, bytes)?;
-    let keys = plain_keys(alloc, &trace)?;
-    let report = report_of_inserts(alloc, trace.head().layout.rows, &keys)?;
-    Ok(report_text(alloc, &report)?)
-}
-
-/// The report of a trace.
-struct Stepping;
-
-impl Answering for Stepping {
-    ghost use Rattle.flit_step_command.specs.Stepping.{IsReportOf, HasNoReport};
-
-    ghost IsAnswer = { IsReportOf };
-
-    ghost HasNone = { HasNoReport };
-
-    fn answer(alloc: Global, input: Vec<u8>) -> Result<Vec<u8>, Status>
-        ensures answer { IfOk result (λ text. IsReportOf input.items text.items) }
-        ensures kind { IfErr result IsOfBytes }
-        ensures none { IfErr result (HasNoReport input.items) }
-    {
-        report_of_trace(alloc, &input)
+    if words.is(&["step"]) {
+        Some(Wanted::Report)
+    } else if words.is(&["step", "--events"]) {
+        Some(Wanted::Events)
+    } else if words.is(&["step", "--summary"]) {
+        Some(Wanted::Summary)
+    } else if words.is(&["step", "--image"]) {
+        Some(Wanted::Image)
+    } else {
+        None
     }
 }
 
-/// The command `step`: reads a trace, plays its inserts, and writes the report.
+/// What is wanted of the trace that the bytes are.
+fn text_of_bytes(alloc: Global, bytes: &[u8], wanted: Wanted) -> Result<Vec<u8>, Status>
+    ensures text { IfOk result (λ text. IsTextOf bytes.now wanted text.items) }
+    ensures kind { IfErr result IsOfBytes }
+    ensures none { IfErr result (HasNoReport bytes.now) }
+{
+    let text = text_of_trace(alloc, bytes, wanted)?;
+    Ok(text)
+}
+
+/// The command, with what its words want.
+#[derive(Clone, Copy)]
+struct Stepping {
+    wanted: Wanted,
+}
+
+impl Answering for Stepping {
+    ghost use Rattle.flit_structures.specs.Refusals.{HasNoReport};
+    ghost use Rattle.flit_structures.specs.Texts.{IsTextOf};
+
+    type Beside = ();
+
+    ghost IsAnswer = { λ stepping bytes _ text. IsTextOf bytes stepping.wanted text };
+
+    ghost HasNone = { HasNoReport };
+
+    fn answer(&self, alloc: Global, input: Vec<u8>) -> Result<(Vec<u8>, ()), Status>
+        ensures answer { IfOk result (λ a. IsTextOf input.items self.now.wanted a.0.items) }
+        ensures kind { IfErr result IsOfBytes }
+        ensures none { IfErr result (HasNoReport input.items) }
+    {
+        Ok((text_of_bytes(alloc, &input, self.wanted)?, ()))
+    }
+}
+
+/// The command `step`: reads a trace, plays it turn by turn on the structure that it names, and writes the report; with
+/// `--events` a line for each event before it, with `--summary` six counts in its place, and with `--image` the text of the
+/// image that a crash leaves at the end.
 ///
 /// Usage comes first, before anything is read and with no memory taken; then ReadFault, the limit on bytes (Limit at line
-/// 0), the first fault of the trace with its line (BadTrace or Limit) and WriteFault. NoMemory may come in the place of
-/// each status but Usage.
-///
-/// Only plain traces are played today: one worker's inserts into a list, of version 1, with a counter beside each word and
-/// nothing else. Every other trace is answered BadTrace at line 0. The options of `step` aren't there yet: their words are
-/// answered Usage.
+/// 0), the first fault of the trace with its line (BadTrace or Limit), BadTrace at line 0 for a right trace with one
+/// counter for each line of eight words, which isn't played yet, the first damage of the start image (BadImage), and
+/// WriteFault. NoMemory may come in the place of each status but Usage. The words `step --detect` are answered Usage until
+/// that option is there.
 pub fn flit_step<S: Source, K: Sink>(
     alloc: Global,
     words: &Words,
     source: &mut S,
     sink: &mut K,
 ) -> Status
-    ensures usage { (result ≡ Status.Usage) ↔ (words.now ≢ said_by (Step None)) }
+    ensures usage { (result ≡ Status.Usage) ↔ NamesNoStep words.now }
+    ensures detect { words.now ≡ said_by (Step (Some Detect)) → result ≡ Status.Usage }
     ensures unread { result ≡ Status.Usage → source.new ≡ source.old }
 
-    // With the clause wrote: BadTrace and Limit come exactly where the first fault of the bytes is
-    // at that line, or past that limit, and BadTrace at line 0 exactly where they are a trace that
-    // isn't plain.
+    // With the clause wrote: BadTrace, Limit and BadImage come exactly where this is the first fault
+    // of the bytes, and BadTrace at line 0 exactly where they are a trace that isn't played.
     ensures blames { Blames HasNoReport result (S.left source.old) }
     ensures leaves { IfSome (S.left source.old) (LeavesInput result (S.left source.new)) }
     ensures read_faults { CountsReads result (S.faults source.old) (S.faults source.new) }
 
-    ensures wrote { WroteAnswer IsReportOf result (S.left source.old)
+    ensures wrote { WroteWanted result words.now (S.left source.old)
         (K.taken sink.old) (K.taken sink.new) }
     ensures write_faults { CountsWrites result (K.faults sink.old) (K.faults sink.new) }
     ensures unwritten { WritesNothing result → sink.new ≡ sink.old }
+
+    ensures completes { CanComplete words.now (S.left source.old)
+        (S.faults source.old) (S.faults source.new) (K.faults sink.old) (K.faults sink.new)
+        → (result ≡ Status.Done) ⊎ (result ≡ Status.NoMemory) }
 {
-    if !words.is(&["step"]) {
+    right_traces_are_answered();
+    let Some(wanted) = wanted_by(words) else {
         return Status::Usage;
-    }
-    answer_input::<Stepping, S, K>(alloc, source, sink)
+    };
+    answer_input(&Stepping { wanted }, alloc, source, sink).status
 }

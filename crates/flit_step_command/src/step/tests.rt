@@ -2,31 +2,31 @@ ghost use Rattle.std.specs.Prelude.{◌≤◌};
 
 use super::*;
 use flit_outside::{MemSink, MemSource};
+use flit_recover::Damage;
+use flit_statuses::ImageFault;
 use flit_trace::Bound;
 use std::test::Fail;
 
 const ONE_INSERT: &[u8] = b"flit 1\nstructure list\nrows 4\nworkers 1\n1 insert 5\nend\n";
 
-const ONE_INSERT_REPORT: &[u8] = b"call 1 insert 5 yes\nkeys 5\nfree 3\n";
+const ONE_INSERT_REPORT: &[u8] =
+    b"call 1 insert 5 yes\nhistory 1 1 insert 5 yes\nworker 1 loads 1 omitted 1 queued 0 persists 3 failed 0 helped 0 tries 1\nkeys 5\nfree 3\n";
 
-const CUT: &[u8] = b"flit 1\nstructure list\nrows 4\nworkers 1\n1 insert 5\n";
+const ONE_INSERT_EVENTS: &[u8] =
+    b"event 1 load 0 0:0\nevent 1 readtag 0 0\nevent 1 draw 0\nevent 1 load 1 0:0\nevent 1 load 2 0:0\nevent 1 store 1 1:5\nevent 1 store 2 1:0\nevent 1 persist 1 1:5 0:0\nevent 1 persist 2 1:0 0:0\nevent 1 raise 0 0\nevent 1 exchange 0 0:0 1:4 0:0\nevent 1 persist 0 1:4 0:0\nevent 1 lower 0 1\ncall 1 insert 5 yes\nhistory 1 1 insert 5 yes\nworker 1 loads 1 omitted 1 queued 0 persists 3 failed 0 helped 0 tries 1\nkeys 5\nfree 3\n";
 
-const LARGEST_KEY: &[u8] = b"flit 1\nstructure list\nrows 4\nworkers 1\n1 insert 4294967292\nend\n";
+const ONE_INSERT_COUNTS: &[u8] = b"calls 1\ndone 1\nstopped 0\nfull 0\nworn 0\nkeys 1\n";
 
-const LARGEST_KEY_REPORT: &[u8] = b"call 1 insert 4294967292 yes\nkeys 4294967292\nfree 3\n";
+const BUCKET: &[u8] = b"flit 1\nstructure hash 256\nrows 4\nworkers 1\n1 insert 1\nend\n";
 
-const NO_ROW_LEFT: &[u8] =
-    b"flit 1\nstructure list\nrows 1\nworkers 1\n1 insert 1\n1 insert 2\nend\n";
+const BUCKET_IMAGE: &[u8] =
+    b"image 1\nstructure hash 256\nrows 4\nword 177 1:4\nword 256 1:1\nword 257 1:0\nend\n";
 
-const NO_ROW_LEFT_REPORT: &[u8] = b"call 1 insert 1 yes\ncall 1 insert 2 full 1\nkeys 1\nfree 0\n";
+const UNLAWFUL_START: &[u8] =
+    b"flit 2\nstructure list\nrows 4\nworkers 1\nstart 2\nword 0 1:4\nword 1 1:5\nword 2 1:4\nbegin\nend\n";
 
-const TWICE: &[u8] =
-    b"# twice\nflit 1\nstructure list\nrows 4\n\nworkers 1\n1 insert 7\n1 insert 7\nend";
-
-const TWICE_REPORT: &[u8] = b"call 1 insert 7 yes\ncall 1 insert 7 no\nkeys 7\nfree 3\n";
-
-/// A run of the command, on a source that fails at these reads and a sink that fails at these writes, both in pieces of
-/// so many bytes: how it ended, and what the sink took.
+/// A run of the command, on a source that fails at this read and a sink that fails at this write, both in pieces of so
+/// many bytes: how it ended, and what the sink took.
 fn run(
     alloc: Global,
     words: &[&str],
@@ -50,23 +50,23 @@ fn run(
 }
 
 #[test]
-fn traces_are_played(rt: HostRuntime) -> Result<(), Fail> {
-    let runs = [
-        (ONE_INSERT, ONE_INSERT_REPORT),
-        (LARGEST_KEY, LARGEST_KEY_REPORT),
-        (NO_ROW_LEFT, NO_ROW_LEFT_REPORT),
-        (TWICE, TWICE_REPORT),
+fn each_option_has_its_text(rt: HostRuntime) -> Result<(), Fail> {
+    let runs: [(&[&str], &[u8], &[u8]); 4] = [
+        (&["step"], ONE_INSERT, ONE_INSERT_REPORT),
+        (&["step", "--events"], ONE_INSERT, ONE_INSERT_EVENTS),
+        (&["step", "--summary"], ONE_INSERT, ONE_INSERT_COUNTS),
+        (&["step", "--image"], BUCKET, BUCKET_IMAGE),
     ];
-    for (trace, report) in runs {
-        let (status, taken) = run(rt.alloc(), &["step"], trace, 8, 0, 0)?;
+    for (words, trace, text) in runs {
+        let (status, taken) = run(rt.alloc(), words, trace, 8, 0, 0)?;
         assert_eq!(rt; status, Status::Done);
-        assert_eq!(rt; taken.as_slice(), report);
+        assert_eq!(rt; taken.as_slice(), text);
     }
     Ok(())
 }
 
-// The reads of one insert's trace are eight, in pieces of eight bytes, of which the last finds the end; the writes of
-// its report are five.
+// The reads of one insert's trace are eight, in pieces of eight bytes, of which the last finds the end; the writes of its
+// report are seventeen.
 #[test]
 fn each_fault_is_told(rt: HostRuntime) -> Result<(), Fail> {
     for call in 1..=8 {
@@ -74,13 +74,21 @@ fn each_fault_is_told(rt: HostRuntime) -> Result<(), Fail> {
         assert_eq!(rt; status, Status::ReadFault, "at read {call}");
         assert_eq!(rt; taken.len(), 0);
     }
-    for call in 1..=5u64 {
+    for call in 1..=17u64 {
         let (status, taken) = run(rt.alloc(), &["step"], ONE_INSERT, 8, 0, call)?;
         assert_eq!(rt; status, Status::WriteFault, "at write {call}");
         assert_eq!(rt; taken.len() as u64, 8 * (call - 1));
     }
-    let (status, _) = run(rt.alloc(), &["step"], ONE_INSERT, 8, 9, 6)?;
+    let (status, _) = run(rt.alloc(), &["step"], ONE_INSERT, 8, 9, 18)?;
     assert_eq!(rt; status, Status::Done);
+    Ok(())
+}
+
+#[test]
+fn a_sink_that_fails_at_its_third_call(rt: HostRuntime) -> Result<(), Fail> {
+    let (status, taken) = run(rt.alloc(), &["step"], ONE_INSERT, 8, 0, 3)?;
+    assert_eq!(rt; status, Status::WriteFault);
+    assert_eq!(rt; taken.as_slice(), &ONE_INSERT_REPORT[..16]);
     Ok(())
 }
 
@@ -96,14 +104,16 @@ fn a_sink_of_no_pieces_takes_nothing(rt: HostRuntime) -> Result<(), Fail> {
     Ok(())
 }
 
+// Usage comes before a source that fails at its first read.
 #[test]
 fn other_words_come_first(rt: HostRuntime) -> Result<(), Fail> {
-    let lists: [&[&str]; 7] = [
+    let lists: [&[&str]; 8] = [
         &[],
         &["step", "--fast"],
+        &["step", "--detect"],
         &["steps"],
         &["step", "step"],
-        &["step", "--events"],
+        &["step", "--events", "--image"],
         &["run"],
         &["queue"],
     ];
@@ -117,54 +127,31 @@ fn other_words_come_first(rt: HostRuntime) -> Result<(), Fail> {
 
 #[test]
 fn the_first_fault_is_told_with_its_line(rt: HostRuntime) -> Result<(), Fail> {
-    let texts: [(&[u8], u32); 5] = [
-        (b"", 1),
-        (CUT, 6),
-        (b"flit 1\nstructure list\nrows 0\nworkers 1\nend\n", 3),
-        (
-            b"flit 1\nstructure list\nrows 4\nworkers 1\n1 insert 05\nend\n",
-            5,
-        ),
-        (
-            b"flit 1\nstructure list\nrows 4\nworkers 1\n1 insert 4294967293\nend\n",
-            5,
-        ),
-    ];
-    for (text, line) in texts {
-        let (status, taken) = run(rt.alloc(), &["step"], text, 8, 0, 0)?;
-        assert_eq!(rt; status, Status::BadTrace { line });
-        assert_eq!(rt; taken.len(), 0);
-    }
-    Ok(())
-}
-
-#[test]
-fn a_number_past_its_limit_is_told(rt: HostRuntime) -> Result<(), Fail> {
-    let text = b"flit 1\nstructure list\nrows 1048576\nworkers 1\nend\n";
-    let (status, taken) = run(rt.alloc(), &["step"], text, 8, 0, 0)?;
+    let damage = Damage::Shared { row: 1 };
     let limit = Bound::Rows;
-    assert_eq!(rt; status, Status::Limit { line: 3, limit });
-    assert_eq!(rt; taken.len(), 0);
-    Ok(())
-}
-
-// Traces that are right, but not plain.
-#[test]
-fn other_traces_wait(rt: HostRuntime) -> Result<(), Fail> {
-    let texts: [&[u8]; 9] = [
-        b"flit 1\nstructure list\nrows 4\nworkers 1\n1 remove 5\nend\n",
-        b"flit 1\nstructure tree\nrows 4\nworkers 1\n1 insert 5\nend\n",
-        b"flit 1\nstructure list\nplace packed\nrows 4\nworkers 1\n1 insert 5\nend\n",
-        b"flit 1\nstructure list\nrows 4\nworkers 2\n1 insert 5\nend\n",
-        b"flit 1\nstructure list\nrows 4\nworkers 1\nversions 9\n1 insert 5\nend\n",
-        b"flit 1\nstructure list\nrows 4\nworkers 1\n1 insert 5\nturn 1 2\nend\n",
-        b"flit 1\nstructure list\nrows 4\nworkers 1\n1 insert 5\nstop 1 2\nend\n",
-        b"flit 1\nstructure list\nrows 4\nworkers 1\n1 insert 5\nahead all\nend\n",
-        b"flit 2\nstructure list\nrows 4\nworkers 1\n1 insert 5 6\nend\n",
+    let texts: [(&[u8], Status); 6] = [
+        (b"", Status::BadTrace { line: 1 }),
+        (
+            b"flit 1\nstructure list\nrows 4\nworkers 1\n1 insert 5\n",
+            Status::BadTrace { line: 6 },
+        ),
+        (
+            b"flit 1\nstructure list\nrows 0\nworkers 1\nend\n",
+            Status::BadTrace { line: 3 },
+        ),
+        (
+            b"flit 1\nstructure list\nrows 1048576\nworkers 1\nend\n",
+            Status::Limit { line: 3, limit },
+        ),
+        (
+            b"flit 1\nstructure list\nplace lines\nrows 4\nworkers 1\nend\n",
+            Status::BadTrace { line: 0 },
+        ),
+        (UNLAWFUL_START, Status::BadImage(ImageFault::Damage(damage))),
     ];
-    for text in texts {
-        let (status, taken) = run(rt.alloc(), &["step"], text, 8, 0, 0)?;
-        assert_eq!(rt; status, Status::BadTrace { line: 0 });
+    for (text, told) in texts {
+        let (status, taken) = run(rt.alloc(), &["step", "--image"], text, 8, 0, 1)?;
+        assert_eq!(rt; status, told);
         assert_eq!(rt; taken.len(), 0);
     }
     Ok(())
