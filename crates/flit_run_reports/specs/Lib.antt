@@ -1,0 +1,2 @@
+pub mod RunReports
+pub mod RunLaws

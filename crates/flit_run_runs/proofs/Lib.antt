@@ -1,0 +1,4 @@
+pub mod EachWorker
+pub mod MergedCalls
+pub mod Opened
+pub mod ToldReports

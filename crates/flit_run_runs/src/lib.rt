@@ -1,0 +1,11 @@
+//! Runs the works of a trace on threads, on any structure, and makes the report that the command `run` is to tell of it.
+#![tactic(auto)]
+
+mod lines;
+mod reports;
+mod running;
+mod telling;
+
+pub use lines::lines_of_calls;
+pub use reports::{image_of_threads, report_of_threads};
+pub use running::run_trace;
