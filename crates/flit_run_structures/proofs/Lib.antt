@@ -1,0 +1,2 @@
+pub mod PlacedRuns
+pub mod WantedTexts

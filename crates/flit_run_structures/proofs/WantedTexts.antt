@@ -1,0 +1,39 @@
+-- What is wanted of a trace is told of a run on a structure on which its works can be run.
+use Rattle.std.proofs.Common.{◌≡◌, ℕ, true, false, List, sym, subst}
+use Rattle.flit_model.specs.declared.found.Recovered.{Recovered}
+use Rattle.flit_structure.specs.Meanings.{Meaning}
+use Rattle.flit_table.specs.declared.told.Known.{Known}
+use Rattle.flit_trace.specs.SeenTraces.{SeenTrace}
+use Rattle.flit_run_runs.specs.Plays.{CanRunSeen}
+use Rattle.flit_structures.specs.Reports.{WasRead}
+use Rattle.flit_structures.specs.Starts.{StartsSeen}
+use Rattle.flit_run_structures.specs.Runs.{RunsSeen}
+use Rattle.flit_run_structures.specs.Texts.{IsReportSeen, IsImageSeen, IsWantedSeen}
+use Rattle.flit_run_structures.specs.declared.runs.Wanted.{Wanted}
+use Rattle.flit_run_structures.specs.declared.runs.Wanted.TheVariants.{Report, Summary, Image}
+
+module _ {Op : Type 0} (meaning : Meaning Op) (trace : SeenTrace) (start : Recovered) (runs : RunsSeen meaning start trace) where
+  pub can_run : WasRead trace → CanRunSeen meaning start trace
+  can_run read = (read.1.content, read.1.shows, runs read.0 read.1.content read.1.is read.1.shows)
+
+  module _ (starts : StartsSeen trace start) (k : Known) (text : List ℕ) (wanted : Wanted) where
+    pub report_wanted : wanted ≡ Report → IsReportSeen meaning trace start false k text → IsWantedSeen wanted trace k text
+    report_wanted is told =
+        subst (λ (w : Wanted). IsWantedSeen w trace k text) (sym is)
+        (λ bytes t reads shows.
+        let r = told t shows (runs bytes t reads shows) in
+        record { start = start; starts = starts bytes t reads shows; report = r.report; is = r.is; summary_is = r.summary_is; text_is = r.text_is })
+
+    pub summary_wanted : wanted ≡ Summary → IsReportSeen meaning trace start true k text → IsWantedSeen wanted trace k text
+    summary_wanted is told =
+        subst (λ (w : Wanted). IsWantedSeen w trace k text) (sym is)
+        (λ bytes t reads shows.
+        let r = told t shows (runs bytes t reads shows) in
+        record { start = start; starts = starts bytes t reads shows; report = r.report; is = r.is; summary_is = r.summary_is; text_is = r.text_is })
+
+    pub image_wanted : wanted ≡ Image → IsImageSeen meaning trace start k text → IsWantedSeen wanted trace k text
+    image_wanted is told =
+        subst (λ (w : Wanted). IsWantedSeen w trace k text) (sym is)
+        (λ bytes t reads shows.
+        let r = told t shows (runs bytes t reads shows) in
+        record { start = start; starts = starts bytes t reads shows; run = r.run; text_is = r.text_is })
