@@ -5,6 +5,8 @@
 use flit_cli::{Status, StdSink, StdSource, Words, fault_line};
 use std::process::ExitCode;
 use std::rt::Env;
+use std::sync::Wait;
+use std::thread::Threads;
 use std::{env, io};
 
 /// The words of the command line behind the program's name.
@@ -21,14 +23,14 @@ fn words_of(rt: &(impl Env + AllocGlobal)) -> Result<Words, Status> {
 }
 
 /// Runs the command that the words name, from standard input to standard output.
-fn run(rt: &(impl Env + Input + Print + AllocGlobal)) -> Status {
+fn run(rt: &(impl Env + Input + Print + AllocGlobal + Threads + Wait + Sync)) -> Status {
     let words = match words_of(rt) {
         Ok(words) => words,
         Err(status) => return status,
     };
     let mut source = StdSource::new(rt.reader());
     let mut sink = StdSink::new(io::writer(rt));
-    flit_cli::flit(rt.alloc(), &words, &mut source, &mut sink)
+    flit_cli::flit(rt, rt.alloc(), &words, &mut source, &mut sink).status
 }
 
 fn main(rt: HostRuntime) -> ExitCode {

@@ -10,5 +10,6 @@ pub use flit_commands::Words;
 pub use flit_make_command::flit_make;
 pub use flit_outside::{Failed, MemSink, MemSource, Sink, Source, StdSink, StdSource};
 pub use flit_recover_command::flit_recover;
+pub use flit_run_command::{Ended, flit_run};
 pub use flit_statuses::{FaultLine, ImageFault, Status, fault_line};
-pub use flit_step_command::{flit_step, plays_are_legal};
+pub use flit_step_command::flit_step;

@@ -1,8 +1,13 @@
 use crate::*;
+use std::sync::Wait;
 use std::test::Fail;
+use std::thread::Threads;
 
 /// A run of the program, on a source that fails at its first read: how it ended, and how many bytes its sink took.
-fn run(rt: &impl AllocGlobal, line: &[&str]) -> Result<(Status, usize), Fail> {
+fn run<R: AllocGlobal + Threads + Wait + Sync>(
+    rt: &R,
+    line: &[&str],
+) -> Result<(Status, usize), Fail> {
     let alloc = rt.alloc();
     let mut words = Words::new(alloc);
     for word in line {
@@ -10,13 +15,25 @@ fn run(rt: &impl AllocGlobal, line: &[&str]) -> Result<(Status, usize), Fail> {
     }
     let mut source = MemSource::new(Vec::new(alloc), 8, vec![in alloc; 1]?);
     let mut sink = MemSink::new(alloc, 8, Vec::new(alloc), 1000)?;
-    let status = flit(alloc, &words, &mut source, &mut sink);
+    let Ended { status, told } = flit(rt, alloc, &words, &mut source, &mut sink);
+    if told.is_some() {
+        return Err(Fail::from("nothing was run"));
+    }
     Ok((status, sink.bytes().len()))
 }
 
 #[test]
 fn each_command_is_run_by_its_words(rt: HostRuntime) -> Result<(), Fail> {
-    let reading: [&[&str]; 2] = [&["step"], &["recover"]];
+    let reading: [&[&str]; 8] = [
+        &["step"],
+        &["step", "--events"],
+        &["step", "--summary"],
+        &["step", "--image"],
+        &["run"],
+        &["run", "--summary"],
+        &["run", "--image"],
+        &["recover"],
+    ];
     for line in reading {
         let (status, taken) = run(&rt, line)?;
         assert_eq!(rt; status, Status::ReadFault);
@@ -32,10 +49,10 @@ fn each_command_is_run_by_its_words(rt: HostRuntime) -> Result<(), Fail> {
 fn other_words_are_usage(rt: HostRuntime) -> Result<(), Fail> {
     let lines: [&[&str]; 7] = [
         &[],
-        &["run"],
+        &["run", "--events"],
         &["queue"],
         &["check"],
-        &["step", "--events"],
+        &["step", "--detect"],
         &["make", "7", "0", "16", "2"],
         &["recover", "step"],
     ];
