@@ -4,21 +4,25 @@ use Rattle.std.proofs.lemmas.List.{length-append}
 use Rattle.std.specs.List.{AllByRecursion}
 use Rattle.std.specs.Option.{option_to_list}
 use Rattle.flit_model.specs.States.{State, word_at, IsPersistent}
+use Rattle.flit_model.specs.Effects.{with_word}
 use Rattle.flit_model.proofs.Elements.{all_weaker, all_zip}
 use Rattle.flit_place.specs.Tags.{Place}
 use Rattle.flit_place.specs.Covers.{Covers, HoldsOfWriting, holds_up}
 use Rattle.flit_place.specs.declared.writings.Writing.{Writing}
 use Rattle.flit_pv.specs.declared.hands.Hand.{Hand}
-use Rattle.flit_runs.specs.Workings.{Idles, writing_at, goes_for, asks, leaves, confirms}
+use Rattle.flit_pv.specs.declared.queues.Noted.{Noted}
+use Rattle.flit_pv.specs.Hands.{with_pair}
+use Rattle.flit_runs.specs.Workings.{Dependency, dependency, Idles, writing_at, goes_for, asks, leaves, confirms}
 use Rattle.flit_runs.proofs.Starts.{has_left}
-use Rattle.flit_runs.specs.Worlds.{Actor, world_of, writings, IsAway, IsNobodys}
-use Rattle.flit_runs.specs.Soundness.{IsSound, IsSafe, AreApart, IsEachWithEach, IsPersistentOrWon, HasWon, IsSafelyRead, IsStored, MayWriteBack, owed}
+use Rattle.flit_runs.specs.Worlds.{Seen, Actor, world_of, writings, IsAway, IsNobodys}
+use Rattle.flit_runs.specs.Soundness.{IsSound, IsSafe, AreApart, IsEachWithEach, IsPersistentOrWon, HasWon, IsSafelyRead, IsStored, MayBeStored, MayWriteBack, owed}
 use Rattle.flit_runs.proofs.Lists.{all_any, away-flip, each_others}
 use Rattle.flit_runs.proofs.Growth.{grows-same}
 use Rattle.flit_runs.proofs.Carrying.{carries-lasts, knows-lasts}
 use Rattle.flit_runs.proofs.ExchangeSteps.{around}
 use Rattle.flit_runs.proofs.Steps.{Holds, Step, step-none}
-use Rattle.flit_runs.proofs.Turns.{carries-of, safe-from, holds, safe, goes_on, splits}
+use Rattle.flit_runs.proofs.StoreSteps.{stores, carries-stored}
+use Rattle.flit_runs.proofs.Turns.{carries-of, safe-from, holds, safe, own-away, goes_on, splits}
 use Rattle.flit_place.proofs.Splits.{all_with, all_left, all_right, all_both, all_swap}
 use Rattle.flit_model.proofs.Counting.{count_by-append}
 use Rattle.flit_words.specs.Words.{version_of}
@@ -222,6 +226,39 @@ sound_rests p vs s xs me ys hand none queue sound =
   where
     around_settled : (j : ℕ) → vs j ≡ false → IsNobodys (xs ++ me ∷ ys) j → IsPersistentOrWon s (around (writings xs) (writing_at me.at) (writings ys)) j
     around_settled j plain nobodys = subst (λ ws. IsPersistentOrWon s ws j) (splits xs me ys) (sound.settled j plain nobodys)
+
+-- it stores the next version of one of its private words, which was persistent; then it owes and depends on that
+pub sound_stores : (p : Place) (vs : ℕ → Bool) (s : State) (xs : List Actor) (hand : Hand) (needs : List Dependency) (seen : List Seen) (private : List ℕ)
+    (ys : List Actor) (next : Noted) → MayBeStored s private next →
+    IsSound p vs (world_of s xs (record { at = Idles hand; needs = needs; seen = seen; private = private }) ys) →
+    IsSound p vs (world_of (with_word s next.word next.kept) xs (record {
+      at = Idles (with_pair hand next);
+      needs = dependency next.word (version_of next.kept) ∷ needs;
+      seen = seen;
+      private = private;
+    }) ys)
+sound_stores p vs s xs hand needs seen private ys next may sound =
+    let me : Actor = record { at = Idles hand; needs = needs; seen = seen; private = private } in
+    let you : Actor = record me { at = Idles (with_pair hand next); needs = dependency next.word (version_of next.kept) ∷ needs } in
+    let ws : List Writing = around (writings xs) None (writings ys) in
+    let t : State = with_word s next.word next.kept in
+    let held : Holds p vs s ws = holds p vs s xs me ys sound in
+    let carried = carries-of p vs s ws me (safe p vs s xs me ys sound) in
+    let step : Step p vs s t ws ws [] private = stores p vs s ws needs seen private next hand.queue held carried may
+    (own-away p vs s xs me ys sound next.word may.mine) in
+    let old : AllByRecursion (AreApart me) (xs ++ ys) = each_others AreApart apart_turned xs me ys sound.apart in
+    goes_on p vs s xs me ys sound t you [] private step
+    (all_weaker (AreApart me) (λ o. AllByRecursion (IsAway o.private) [] × AllByRecursion (IsAway o.private) private) (λ o k. (tt, k.private)) (xs ++ ys) old)
+    (all_weaker (AreApart me) (AreApart you) (λ o k. record { private = k.private; mine = tt; others = k.others }) (xs ++ ys) old)
+    (λ j plain others away. step.settled j plain away (around_settled j plain (all_with (λ o. IsAway o.private j) xs me ys away others)))
+    (safe-from p vs t ws you (carries-stored p vs s ws needs seen private next hand.queue held carried may step) tt tt)
+  where
+    around_settled : (j : ℕ) → vs j ≡ false →
+        IsNobodys (xs ++ (record { at = Idles hand; needs = needs; seen = seen; private = private }) ∷ ys) j →
+        IsPersistentOrWon s (around (writings xs) None (writings ys)) j
+    around_settled j plain nobodys = subst (λ ws. IsPersistentOrWon s ws j)
+        (splits xs (record { at = Idles hand; needs = needs; seen = seen; private = private }) ys)
+        (sound.settled j plain nobodys)
 
 -- ---- a machine that has ended
 

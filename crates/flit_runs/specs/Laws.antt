@@ -6,15 +6,18 @@ use Rattle.flit_model.specs.States.{State, word_at, shadow_at, count_at, IsPersi
 use Rattle.flit_model.specs.declared.events.Event.TheVariants.{Load, Exchange, Store}
 use Rattle.flit_place.specs.Tags.{Place}
 use Rattle.flit_place.specs.Covers.{holds_up, Shows}
+use Rattle.flit_model.specs.Effects.{with_word}
 use Rattle.flit_pv.specs.declared.hands.Hand.{Hand}
+use Rattle.flit_pv.specs.declared.queues.Noted.{Noted}
+use Rattle.flit_pv.specs.Hands.{with_pair}
 use Rattle.flit_pv.specs.Loads.{HeldLoad, load_asked}
 use Rattle.flit_pv.specs.Confirms.{HeldConfirm}
 use Rattle.flit_pv.specs.Exchanges.{HeldExchange, exchange_asked}
 use Rattle.flit_pv.specs.declared.exchanges.Exchanging.TheVariants.{Withdraws}
 use Rattle.flit_pv.specs.Stores.{HeldStore, store_asked}
-use Rattle.flit_runs.specs.Workings.{Idles, Loads, Confirms, Exchanges, Stores, Task, asks, leaves as leaves_hand, writing_at, confirms, dependency, gains}
-use Rattle.flit_runs.specs.Worlds.{Actor, World, world_of, begun, Step, Execution, IsFreshWorld, IsFreshActor, IsNobodys, writings}
-use Rattle.flit_runs.specs.Soundness.{IsSound, IsStored, owed}
+use Rattle.flit_runs.specs.Workings.{Dependency, Idles, Loads, Confirms, Exchanges, Stores, Task, asks, leaves as leaves_hand, writing_at, confirms, dependency, gains}
+use Rattle.flit_runs.specs.Worlds.{Seen, Actor, World, world_of, begun, Step, Execution, IsFreshWorld, IsFreshActor, IsNobodys, writings}
+use Rattle.flit_runs.specs.Soundness.{IsSound, IsStored, MayBeStored, owed}
 use Rattle.flit_runs.specs.Rules.{IsDurable, KeepsRule, KeepsWords, AsksAllowed, LoadsPersistent, ConfirmsPersistent, ConfirmedPersistent, LoadsSettled, IsAccounted}
 use Rattle.flit_runs.specs.Witnesses.{beside}
 
@@ -29,13 +32,23 @@ pub record WorldsAreSound : Type 0 where
 
 -- A sound world stays sound when a worker that has no exchange under way rests with a hand of the queue that it owes; when
 -- a worker whose machine asks nothing more rests with the hand that the machine leaves, and depends on what it confirmed;
--- when a worker is hired that has done nothing; and when stretches of the list of workers change places.
+-- when a worker at rest stores the next version of one of its private words, which was persistent, and owes and depends on
+-- that; when a worker is hired that has done nothing; and when stretches of the list of workers change places.
 pub record WorldsStaySound : Type 0 where
   pub rests : (p : Place) (vs : ℕ → Bool) (s : State) (before : List Actor) (me : Actor) (behind : List Actor) (hand : Hand) → writing_at me.at ≡ None →
       owed me.at ≡ hand.queue → IsSound p vs (world_of s before me behind) → IsSound p vs (world_of s before (record me { at = Idles hand }) behind)
   pub leaves : (p : Place) (vs : ℕ → Bool) (s : State) (before : List Actor) (me : Actor) (behind : List Actor) → asks p me.at ≡ None →
       IsSound p vs (world_of s before me behind) →
       IsSound p vs (world_of s before (record me { at = Idles (leaves_hand me.at); needs = confirms me.at ++ me.needs }) behind)
+  pub stores : (p : Place) (vs : ℕ → Bool) (s : State) (before : List Actor) (hand : Hand) (needs : List Dependency) (seen : List Seen) (private : List ℕ)
+      (behind : List Actor) (next : Noted) → MayBeStored s private next →
+      IsSound p vs (world_of s before (record { at = Idles hand; needs = needs; seen = seen; private = private }) behind) →
+      IsSound p vs (world_of (with_word s next.word next.kept) before (record {
+        at = Idles (with_pair hand next);
+        needs = dependency next.word (version_of next.kept) ∷ needs;
+        seen = seen;
+        private = private;
+      }) behind)
   pub hires : (p : Place) (vs : ℕ → Bool) (s : State) (workers : List Actor) (hand : Hand) → hand.queue ≡ [] → suc (length workers) < 2 ^ 64 - 1 →
       IsSound p vs (record { state = s; workers = workers }) →
       IsSound p vs (record { state = s; workers = (record { at = Idles hand; needs = []; seen = []; private = [] }) ∷ workers })
