@@ -1,5 +1,5 @@
 -- Workers beside their machines: one among the others; and what the others know lasts while one goes on.
-use Rattle.std.proofs.Common.{◌≡◌, ◌≢◌, ℕ, ◌≤◌, List, [], ◌∷◌, ◌++◌, length, Option, Some, refl, sym, ap, arith}
+use Rattle.std.proofs.Common.{◌≡◌, ◌≢◌, ℕ, ◌≤◌, List, [], ◌∷◌, ◌++◌, length, Option, Some, refl, sym, ap, subst, arith}
 use Rattle.std.specs.Prelude.{Contains}
 use Rattle.std.specs.List.{AllByRecursion}
 use Rattle.flit_words.specs.declared.layouts.Layout.{Layout}
@@ -13,11 +13,12 @@ use Rattle.flit_structure.specs.declared.workers.Worker.{Worker}
 use Rattle.flit_structure.specs.Moments.{IsNew}
 use Rattle.flit_structure.specs.Meanings.{first_at}
 use Rattle.flit_crew.specs.Machines.{reads_for}
-use Rattle.flit_crew.specs.Heaps.{Heap, IsOpen, IsMine, IsShut, AreOld, HaveStayed}
+use Rattle.flit_crew.specs.Heaps.{Heap, IsOpen, IsMine, IsForeign, IsHidden, IsWordOf, AreOld, HaveStayed}
 use Rattle.flit_crew.specs.Anatomies.{own_in, deed}
 use Rattle.flit_crew.specs.Crews.{Crew, Acts, AllAct, IsDoing, who_of}
 use Rattle.flit_crew.specs.Obligations.{Keeps}
 use Rattle.flit_crew.proofs.Knowing.{HasRisen, facts_last}
+use Rattle.flit_crew.proofs.Outside.{shut_hidden}
 use Rattle.flit_crew.proofs.Updating.{Follows, settled_longer, update_lasts}
 
 pub through : (a b c : ℕ) → a ≤ b → b ≤ c → a ≤ c
@@ -60,11 +61,12 @@ module _ {G Op : Type 0} (c : Crew G Op) (l : Layout) (p : Place) (free : List �
     pub is : c.kept k
     pub later : c.later who h k
     pub follows : Follows who h k
+    pub opening : k.opening ≡ h.opening
     pub given : (row : ℕ) → Contains h.given row → Contains k.given row
     pub risen : HasRisen c l p free h k
 
-  pub shut_of : (h : Heap G) (u : U) (g : Actor) → Acts c l p free h u g → AllByRecursion (IsShut l free h) g.private
-  shut_of h u g m = all_weaker (IsMine l free h (own_in c.anatomy u.doing)) (IsShut l free h) (λ w k. k.shut) g.private m.mine
+  pub hidden_of : (h : Heap G) (u : U) (g : Actor) → Acts c l p free h u g → AllByRecursion (IsHidden l free h) g.private
+  hidden_of h u g m = all_weaker (IsMine l free h (own_in c.anatomy u.doing)) (IsHidden l free h) (λ w k. shut_hidden l free h w k.shut) g.private m.mine
 
   -- a worker that didn't make it: its rows hold what they held, and are no more linked than before
   pub record Stays (who : Option ℕ) (h k : Heap G) (u : U) (g : Actor) : Type 0 where
@@ -81,7 +83,11 @@ module _ {G Op : Type 0} (c : Crew G Op) (l : Layout) (p : Place) (free : List �
 
   module _ (keeps : Keeps c l p free) (who : Option ℕ) (h k : Heap G) (moves : Moves who h k) where
     pub still_open : (w : ℕ) → IsOpen l free h w → IsOpen l free k w
-    still_open w o = record { within = o.within; given = λ row pool word. moves.given row (o.given row pool word) }
+    still_open w o = record {
+      within = o.within;
+      given = λ row pool word. moves.given row (o.given row pool word);
+      ours = subst (λ x. (row : ℕ) → IsForeign l free x row → IsWordOf l row w → ⊥) (sym moves.opening) o.ours;
+    }
 
     doing_lasts : (g : Actor) (name number : ℕ) (d : Doing Op) → who ≢ Some name → HaveStayed l h k (own_in c.anatomy d) → AreOld h g.needs →
         IsDoing c l p free h g name number d → IsDoing c l p free k g name number d

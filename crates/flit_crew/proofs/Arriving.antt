@@ -26,13 +26,14 @@ use Rattle.flit_runs.specs.Soundness.{IsSound, IsSafelyRead, MayConfirm, Needs}
 use Rattle.flit_runs.proofs.ExchangeSteps.{around}
 use Rattle.flit_runs.proofs.Turns.{sound-turn, safe}
 use Rattle.flit_crew.specs.Machines.{Works, SeesNoTag, working_in, hand_in, hand_of, reads_for, has_ended, has_linked, deed_of}
-use Rattle.flit_crew.specs.Heaps.{Heap, IsOpen, IsShut, IsMine, IsWordOf}
+use Rattle.flit_crew.specs.Heaps.{Heap, IsOpen, IsHidden, IsMine, IsWordOf}
 use Rattle.flit_crew.specs.Anatomies.{own, rows_but}
 use Rattle.flit_crew.specs.Crews.{Crew, Who, MayBegin, IsSpareWord, Facts, IsAlone, Goes, starts, draws, passes, changes, left, taking_over}
 use Rattle.flit_runs.proofs.Changes.{sound_rests, sound_leaves}
 use Rattle.flit_crew.proofs.Owning.{rests_now}
 use Rattle.flit_crew.proofs.Alone.{left_queued}
 use Rattle.flit_crew.proofs.Knowing.{started_facts}
+use Rattle.flit_crew.proofs.Outside.{shut_hidden}
 
 -- the same worker at rest with this hand
 abbrev pub resting : Who → Hand → Actor
@@ -70,8 +71,8 @@ confirm_same hand w raw false = record { name = refl; number = refl; ticket = re
 
 module _ {G Op : Type 0} (c : Crew G Op) (l : Layout) (p : Place) (free : List ℕ) (h : Heap G) where
   -- what everybody may reach is nobody's own
-  pub away : (w : ℕ) → IsOpen l free h w → (private : List ℕ) → AllByRecursion (IsShut l free h) private → IsAway private w
-  away w o private shut = all_weaker (IsShut l free h) (λ x. x ≢ w) (λ x s e. s.unlinked (o.given s.row s.pool (subst (λ y. IsWordOf l s.row y) e s.word)))
+  pub away : (w : ℕ) → IsOpen l free h w → (private : List ℕ) → AllByRecursion (IsHidden l free h) private → IsAway private w
+  away w o private shut = all_weaker (IsHidden l free h) (λ x. x ≢ w) (λ x n e. n (subst (IsOpen l free h) (sym e) o))
       private shut
 
   exchange_hand : (hand : Hand) (w old value limit : ℕ) → (exchange_started hand w old value limit).hand ≡ hand
@@ -141,7 +142,7 @@ module _ {G Op : Type 0} (c : Crew G Op) (l : Layout) (p : Place) (free : List �
   started_reading me (ToEvict w) hand may = absurd may
 
   module _ (accepted : Accepted l) (s : State) (words : length s.words ≡ words_of l) (same_words : h.words ≡ map bare_of s.words) (xs ys : List Actor)
-      (others : AllByRecursion (λ o. AllByRecursion (IsShut l free h) o.private) (xs ++ ys))
+      (others : AllByRecursion (λ o. AllByRecursion (IsHidden l free h) o.private) (xs ++ ys))
       -- the operation's own rows: they are rows of the pool that aren't linked, and the others don't reach their words
       (op : Op) (pool_rows : (row : ℕ) → Contains (own c.anatomy op) row → Contains free row × (Contains h.given row → ⊥))
       (unreached : (row w : ℕ) → Contains (own c.anatomy op) row → IsWordOf l row w →
@@ -152,17 +153,17 @@ module _ {G Op : Type 0} (c : Crew G Op) (l : Layout) (p : Place) (free : List �
     abbrev IsOwnWord : ℕ → Type 0
     IsOwnWord w = IsMine l free h (own c.anatomy op) w
 
-    shut_words : (private : List ℕ) → AllByRecursion IsOwnWord private → AllByRecursion (IsShut l free h) private
-    shut_words private all = all_weaker IsOwnWord (IsShut l free h) (λ w k. k.shut) private all
+    shut_words : (private : List ℕ) → AllByRecursion IsOwnWord private → AllByRecursion (IsHidden l free h) private
+    shut_words private all = all_weaker IsOwnWord (IsHidden l free h) (λ w k. shut_hidden l free h w k.shut) private all
 
-    shared : (me : Who) (hand : Hand) → AllByRecursion (IsShut l free h) me.private → (w : ℕ) → IsOpen l free h w →
+    shared : (me : Who) (hand : Hand) → AllByRecursion (IsHidden l free h) me.private → (w : ℕ) → IsOpen l free h w →
         IsShared (λ word. false) s (resting me hand ∷ (xs ++ ys)) w
     shared me hand shut w o = record {
       within = subst (λ n. w < n) (sym words) o.within;
       plain = refl;
       reached = (
         away w o me.private shut,
-        all_weaker (λ a. AllByRecursion (IsShut l free h) a.private) (λ a. IsAway a.private w) (λ a k. away w o a.private k)
+        all_weaker (λ a. AllByRecursion (IsHidden l free h) a.private) (λ a. IsAway a.private w) (λ a k. away w o a.private k)
             (xs ++ ys) others,
       );
     }
@@ -185,7 +186,7 @@ module _ {G Op : Type 0} (c : Crew G Op) (l : Layout) (p : Place) (free : List �
     limit_small : (n : ℕ) → n ≡ l.limit → n ≤ GREATEST_VERSION
     limit_small n e = subst (λ x. x ≤ GREATEST_VERSION) (sym e) accepted.most_limit
 
-    may_start : (me : Who) (hand : Hand) → AllByRecursion (IsShut l free h) me.private → IsSoundWith (resting me hand) → (task : Task) →
+    may_start : (me : Who) (hand : Hand) → AllByRecursion (IsHidden l free h) me.private → IsSoundWith (resting me hand) → (task : Task) →
         (takes_over task ≡ [] ⊎ ((row : ℕ) → Contains (rows_in hand.spare) row → Contains (own c.anatomy op) row)) →
         MayBegin c l p free h me hand task → MayStart (λ word. false) s (xs ++ ys) (resting me hand) task
     may_start me hand shut sound (ToLoad w) rows may = shared me hand shut w may
@@ -234,7 +235,7 @@ module _ {G Op : Type 0} (c : Crew G Op) (l : Layout) (p : Place) (free : List �
       pub knows : c.knows h (who_now me actor) op
 
     pub started_sound : (me : Who) (hand : Hand) (task : Task) → (takes_over task ≡ []
-        ⊎ ((row : ℕ) → Contains (rows_in hand.spare) row → Contains (own c.anatomy op) row)) → AllByRecursion (IsShut l free h) me.private →
+        ⊎ ((row : ℕ) → Contains (rows_in hand.spare) row → Contains (own c.anatomy op) row)) → AllByRecursion (IsHidden l free h) me.private →
         IsSoundWith (resting me hand) → MayBegin c l p free h me hand task →
         IsSoundWith (begun task (resting me hand))
     started_sound me hand task rows shut sound may =

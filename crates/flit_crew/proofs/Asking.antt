@@ -32,7 +32,7 @@ use Rattle.flit_runs.proofs.RuleLaws as rules
 use Rattle.flit_structure.specs.declared.workers.Worker.{Worker}
 use Rattle.flit_structure.specs.Moments.{Moment, with_workers, busy, sweeper}
 use Rattle.flit_crew.specs.Machines.{Machine, Works, Takes, machine_asks, machine_exchanges, working_exchanges, exchanges_now}
-use Rattle.flit_crew.specs.Crews.{Crew, Holds}
+use Rattle.flit_crew.specs.Crews.{Crew, Holds, stranger_of}
 use Rattle.flit_crew.specs.Obligations.{Keeps}
 use Rattle.flit_crew.proofs.Moving.{mine, is_sound}
 use Rattle.flit_crew.proofs.Drawing.{few}
@@ -153,8 +153,9 @@ module _ {G Op : Type 0} (c : Crew G Op) (l : Layout) (p : Place) (free : List �
     pub allowed : (m : Machine) → c.anatomy.machine op ≡ m → (e : Event) → machine_asks p m ≡ Some e → IsAllowed M.state e
     allowed (Works w) is e q =
         let r = mine c l p free keeps M a (busy name number op call begun) b holds in
-        let all : AsksAllowed p M.state r.actor = all_middle (AsksAllowed p M.state) r.before r.actor r.behind
-        (rules.allowed p (λ x. false) (world_of M.state r.before r.actor r.behind) (is_sound c l p free keeps M a (busy name number op call begun) b holds))
+        let front : List Actor = stranger_of holds.stranger ∷ r.before in
+        let all : AsksAllowed p M.state r.actor = all_middle (AsksAllowed p M.state) front r.actor r.behind
+        (rules.allowed p (λ x. false) (world_of M.state front r.actor r.behind) (is_sound c l p free keeps M a (busy name number op call begun) b holds))
         in
         all e (ap (run.asks p) (r.mine.at ∙ ap Rattle.flit_crew.specs.Machines.working_in is) ∙ q)
     allowed (Takes m) is e q = by_stage m.at refl q
@@ -167,7 +168,8 @@ module _ {G Op : Type 0} (c : Crew G Op) (l : Layout) (p : Place) (free : List �
         (bare_of (word_at (after M.state e) word) ≡ bare_of (word_at M.state word)) ⊎ (bare_of (word_at M.state word) ≡ shadow_at M.state word)
     replaces (Works w) is e q word =
         let r = mine c l p free keeps M a (busy name number op call begun) b holds in
-        replaces_event p M.state r.before r.actor r.behind (is_sound c l p free keeps M a (busy name number op call begun) b holds) e
+        let front : List Actor = stranger_of holds.stranger ∷ r.before in
+        replaces_event p M.state front r.actor r.behind (is_sound c l p free keeps M a (busy name number op call begun) b holds) e
         (ap (run.asks p) (r.mine.at ∙ ap Rattle.flit_crew.specs.Machines.working_in is) ∙ q) word
     replaces (Takes m) is e q word = by_stage m.at q
       where
@@ -181,12 +183,14 @@ module _ {G Op : Type 0} (c : Crew G Op) (l : Layout) (p : Place) (free : List �
       (bare_of (word_at (after M.state e) word) ≡ bare_of (word_at M.state word)) ⊎ (bare_of (word_at M.state word) ≡ shadow_at M.state word)
   evict_replaces m holds e q word =
       let r = mine c l p free keeps M a (sweeper name number m) b holds in
-      replaces_event p M.state r.before r.actor r.behind (is_sound c l p free keeps M a (sweeper name number m) b holds) e (ap (run.asks p) r.mine.at ∙ q) word
+      let front : List Actor = stranger_of holds.stranger ∷ r.before in
+      replaces_event p M.state front r.actor r.behind (is_sound c l p free keeps M a (sweeper name number m) b holds) e (ap (run.asks p) r.mine.at ∙ q) word
 
   pub evict_allowed : (m : Evict) → Holds c l p free (with_workers M (a ++ sweeper name number m ∷ b)) → (e : Event) → evict_asked m ≡ Some e →
       IsAllowed M.state e
   evict_allowed m holds e q =
       let r = mine c l p free keeps M a (sweeper name number m) b holds in
-      let all : AsksAllowed p M.state r.actor = all_middle (AsksAllowed p M.state) r.before r.actor r.behind
-      (rules.allowed p (λ x. false) (world_of M.state r.before r.actor r.behind) (is_sound c l p free keeps M a (sweeper name number m) b holds)) in
+      let front : List Actor = stranger_of holds.stranger ∷ r.before in
+      let all : AsksAllowed p M.state r.actor = all_middle (AsksAllowed p M.state) front r.actor r.behind
+      (rules.allowed p (λ x. false) (world_of M.state front r.actor r.behind) (is_sound c l p free keeps M a (sweeper name number m) b holds)) in
       all e (ap (run.asks p) r.mine.at ∙ q)

@@ -12,8 +12,8 @@ use Rattle.flit_pv.specs.declared.queues.Noted.{Noted}
 use Rattle.flit_pv.specs.Queues.{first_persist}
 use Rattle.flit_pv.specs.Fences.{HeldComplete}
 use Rattle.flit_runs.specs.Workings as run
-use Rattle.flit_runs.specs.Workings.{Working, Idles, Loads, VLoads, Confirms, Exchanges, VExchanges, Stores, Fences, Completes, Evicts, Task, ToEvict, started, takes_over, leaves}
-use Rattle.flit_runs.specs.Worlds.{Actor, world_of, begun, publishes, IsNotStoring}
+use Rattle.flit_runs.specs.Workings.{Working, goes_for, Idles, Loads, VLoads, Confirms, Exchanges, VExchanges, Stores, Fences, Completes, Evicts, Task, ToEvict, started, takes_over, leaves}
+use Rattle.flit_runs.specs.Worlds.{Actor, IsAway, world_of, begun, publishes, IsNotStoring}
 use Rattle.flit_runs.specs.Soundness.{IsSound}
 use Rattle.flit_runs.specs.Rules.{KeepsWords, MustBeDurable}
 use Rattle.flit_runs.proofs.RuleLaws.{words_rule}
@@ -23,11 +23,12 @@ use Rattle.flit_structure.specs.Moments.{Moment, with_workers, idle, busy, sweep
 use Rattle.flit_structure.specs.Meanings.{IsServed}
 use Rattle.flit_structure.proofs.Names.{all_both}
 use Rattle.flit_crew.specs.Machines.{Machine, Works, Takes, Tags, Fresh, MakesAt, machine_asks, working_in, hand_in, hand_of, has_ended, is_complete, deed_of}
-use Rattle.flit_crew.specs.Heaps.{Heap, heap_of, waits_at, IsOpen, IsWordOf, IsShut}
+use Rattle.flit_crew.specs.Heaps.{Heap, heap_of, waits_at, IsOpen, IsWordOf, IsHidden}
 use Rattle.flit_crew.specs.Anatomies.{own, own_in, hand_at, deed_by}
 use Rattle.flit_crew.specs.Accounts.{HasUpdate, IsUnmade, Rows, History, IsSteady, AreTight, IsMaker}
-use Rattle.flit_crew.specs.Crews.{Crew, Who, Holds, IsBusy, Facts, who_of}
+use Rattle.flit_crew.specs.Crews.{Crew, Who, Holds, IsBusy, Facts, who_of, stranger_of}
 use Rattle.flit_crew.specs.Obligations.{Keeps, StartsSo}
+use Rattle.flit_crew.proofs.Outside.{outside_hidden, outside_away}
 use Rattle.flit_crew.proofs.Acting.{Split}
 use Rattle.flit_crew.proofs.Moving.{h, mine, is_sound, moved_still}
 use Rattle.flit_runs.proofs.Changes.{sound_rests}
@@ -37,7 +38,7 @@ use Rattle.flit_crew.proofs.Owning.{IsOwn, own_row, own_away, lower}
 use Rattle.flit_crew.proofs.Arriving.{resting, started_sound, started_alone, started_hand, started_open, started_reading}
 use Rattle.flit_crew.proofs.Tagging.{tags_none}
 use Rattle.flit_crew.proofs.Knowing.{started_facts}
-use Rattle.flit_crew.proofs.Going.{all_shut}
+use Rattle.flit_crew.proofs.Going.{all_hidden}
 
 module _ {G Op : Type 0} (c : Crew G Op) (l : Layout) (p : Place) (free : List ℕ) (keeps : Keeps c l p free) (M : Moment Op) (a b : List (Worker Op)) where
   -- ---- a call begins
@@ -52,6 +53,10 @@ module _ {G Op : Type 0} (c : Crew G Op) (l : Layout) (p : Place) (free : List �
 
     abbrev r : Split c l p free here a u b holds.actors
     r = mine c l p free keeps M a u b holds
+
+    -- those before it in the world
+    abbrev front : List Actor
+    front = stranger_of holds.stranger ∷ r.before
 
     abbrev now : Hand
     now = record hand { number = hand.number + 1 }
@@ -71,8 +76,8 @@ module _ {G Op : Type 0} (c : Crew G Op) (l : Layout) (p : Place) (free : List �
     nothing_private : r.actor.private ≡ []
     nothing_private = r.mine.doing.0
 
-    rests : IsSound p (λ word. false) (world_of M.state r.before (resting me x.now) r.behind)
-    rests = sound_rests p (λ word. false) M.state r.before r.actor r.behind x.now (ap run.writing_at r.mine.at)
+    rests : IsSound p (λ word. false) (world_of M.state front (resting me x.now) r.behind)
+    rests = sound_rests p (λ word. false) M.state front r.actor r.behind x.now (ap run.writing_at r.mine.at)
         (ap Rattle.flit_runs.specs.Soundness.owed r.mine.at ∙ sym x.alike.queue) (is_sound c l p free keeps M a u b holds)
 
     abbrev g : Actor
@@ -82,13 +87,22 @@ module _ {G Op : Type 0} (c : Crew G Op) (l : Layout) (p : Place) (free : List �
     own_is row k = own_row (λ v. own_in c.anatomy v.doing) free M.state.counter holds.given a u b row (lower free holds.pool.rising) holds.rows.dealt
         (subst (λ rows. Contains rows row) (keeps.begun_own hand call) k)
 
-    sound : IsSound p (λ word. false) (world_of M.state r.before g r.behind)
-    sound = started_sound c l p free here holds.accepted M.state holds.words refl r.before r.behind
-        (all_both (λ o. AllByRecursion (IsShut l free here) o.private) r.before r.behind (all_shut c l p free here a r.before r.left)
-        (all_shut c l p free here b r.behind r.right))
-        op (λ row k. ((own_is row k).pool, (own_is row k).unlinked)) (λ row v k of. own_away c l p free here holds.pool a b r.before r.behind r.left r.right row
-        v (own_is row k) of)
-        me x.now x.task (inl x.none) (subst (AllByRecursion (IsShut l free here)) (sym nothing_private) tt) rests x.may
+    others : AllByRecursion (λ o. AllByRecursion (IsHidden l free here) o.private) (front ++ r.behind)
+    others = all_both (λ o. AllByRecursion (IsHidden l free here) o.private) front r.behind
+        (outside_hidden l free here holds.opening holds.stranger holds.outside, all_hidden c l p free here a r.before r.left)
+        (all_hidden c l p free here b r.behind r.right)
+
+    unreached : (row v : ℕ) → Contains (own c.anatomy op) row → IsWordOf l row v →
+        AllByRecursion (λ o. IsAway o.private v × IsAway (goes_for o.at) v) (front ++ r.behind)
+    unreached row v k of = (
+      (outside_away l free here holds.pool holds.opening holds.stranger holds.outside row v (own_is row k).pool of, tt),
+      own_away c l p free here holds.pool a b r.before r.behind r.left r.right row v (own_is row k) of,
+    )
+
+    sound : IsSound p (λ word. false) (world_of M.state front g r.behind)
+    sound = started_sound c l p free here holds.accepted M.state holds.words refl front r.behind others op
+        (λ row k. ((own_is row k).pool, (own_is row k).unlinked)) unreached me x.now x.task (inl x.none)
+        (subst (AllByRecursion (IsHidden l free here)) (sym nothing_private) tt) rests x.may
 
     at : g.at ≡ working_in (c.anatomy.machine op)
     at = ap working_in (sym x.at)
@@ -142,10 +156,8 @@ module _ {G Op : Type 0} (c : Crew G Op) (l : Layout) (p : Place) (free : List �
           reading = started_reading c l p free here me x.task x.now x.may;
           mine = subst (AllByRecursion (Rattle.flit_crew.specs.Heaps.IsMine l free here (own c.anatomy op))) (sym none_private) tt;
           published = λ q t. none_private;
-          alone = λ one. started_alone c l p free here holds.accepted M.state holds.words refl r.before r.behind
-              (all_both (λ o. AllByRecursion (IsShut l free here) o.private) r.before r.behind (all_shut c l p free here a r.before r.left)
-              (all_shut c l p free here b r.behind r.right)) op (λ row k. ((own_is row k).pool, (own_is row k).unlinked))
-              (λ row v k of. own_away c l p free here holds.pool a b r.before r.behind r.left r.right row v (own_is row k) of) me x.now rests x.task x.may
+          alone = λ one. started_alone c l p free here holds.accepted M.state holds.words refl front r.behind others op
+              (λ row k. ((own_is row k).pool, (own_is row k).unlinked)) unreached me x.now rests x.task x.may
               (record {
                 machine = tt;
                 queued = x.alike.queued ∙ ap (λ y. (hand_of y).tally.queued) (sym r.mine.at) ∙ (r.mine.alone one).queued;
@@ -183,6 +195,9 @@ module _ {G Op : Type 0} (c : Crew G Op) (l : Layout) (p : Place) (free : List �
 
     abbrev pub q : Split c l p free there a v b holds.actors
     q = mine c l p free keeps M a v b holds
+
+    abbrev front_there : List Actor
+    front_there = stranger_of holds.stranger ∷ q.before
 
     pub known : IsBusy c l p free there q.actor name number op call begun_at
     known = q.mine.doing
@@ -239,20 +254,20 @@ module _ {G Op : Type 0} (c : Crew G Op) (l : Layout) (p : Place) (free : List �
     asks_nothing : run.asks p q.actor.at ≡ None
     asks_nothing = ap (run.asks p) at_complete ∙ ap first_persist is_complete_now.2
 
-    opened : IsSound p (λ y. false) (world_of M.state q.before open_actor q.behind)
+    opened : IsSound p (λ y. false) (world_of M.state front_there open_actor q.behind)
     opened =
         let sound = is_sound c l p free keeps M a v b holds in
-        let words : KeepsWords p M.state q.actor = all_middle (KeepsWords p M.state) q.before q.actor q.behind
-        (words_rule p (λ y. false) (world_of M.state q.before q.actor q.behind) sound) in
-        sound-turn p (λ y. false) (world_of M.state q.before q.actor q.behind) (world_of M.state q.before open_actor q.behind)
-        (publishes M.state q.before q.actor q.behind (subst IsNotStoring (sym at_complete) tt)
+        let words : KeepsWords p M.state q.actor = all_middle (KeepsWords p M.state) front_there q.actor q.behind
+        (words_rule p (λ y. false) (world_of M.state front_there q.actor q.behind) sound) in
+        sound-turn p (λ y. false) (world_of M.state front_there q.actor q.behind) (world_of M.state front_there open_actor q.behind)
+        (publishes M.state front_there q.actor q.behind (subst IsNotStoring (sym at_complete) tt)
         (words (subst (MustBeDurable p) (sym at_complete) (ap first_persist is_complete_now.2)))) sound
 
     abbrev left_actor : Actor
     left_actor = record { at = Idles left_hand; needs = q.actor.needs; seen = q.actor.seen; private = [] }
 
-    left_sound : IsSound p (λ y. false) (world_of M.state q.before left_actor q.behind)
-    left_sound = sound_rests p (λ y. false) M.state q.before open_actor q.behind left_hand (ap run.writing_at at_complete)
+    left_sound : IsSound p (λ y. false) (world_of M.state front_there left_actor q.behind)
+    left_sound = sound_rests p (λ y. false) M.state front_there open_actor q.behind left_hand (ap run.writing_at at_complete)
         (ap Rattle.flit_runs.specs.Soundness.owed at_complete ∙ ap (λ y. y.queue) (sym hand_was)) opened
 
     abbrev w_idle : Worker Op

@@ -31,6 +31,7 @@ use Rattle.flit_pv.specs.Queues.{first_persist, persist_of}
 use Rattle.flit_rows.specs.declared.take_row.Taking.{Taking}
 use Rattle.flit_rows.specs.declared.take_row.Taking.TheVariants.{Draws, Ended as Take_ended}
 use Rattle.flit_rows.specs.Taking.{HeldTake, take_asks}
+use Rattle.flit_runs.specs.Worlds.{Actor}
 use Rattle.flit_runs.specs.Workings as run
 use Rattle.flit_runs.specs.Workings.{Working, Idles, Loads, VLoads, Confirms, Exchanges, VExchanges, Stores, Fences, Completes, Evicts}
 use Rattle.flit_runs.specs.Worlds as world
@@ -42,7 +43,7 @@ use Rattle.flit_structure.specs.Moments.{Moment, with_workers, busy, update_of}
 use Rattle.flit_structure.specs.Meanings.{first_at}
 use Rattle.flit_crew.specs.Machines.{Machine, Works, Takes, deed_of, machine_asks, machine_exchanges, machine_takes, part_of}
 use Rattle.flit_crew.specs.Anatomies.{op_taken}
-use Rattle.flit_crew.specs.Crews.{Crew, Holds}
+use Rattle.flit_crew.specs.Crews.{Crew, Holds, stranger_of}
 use Rattle.flit_crew.specs.Obligations.{Keeps}
 use Rattle.flit_crew.proofs.Acting.{Split}
 use Rattle.flit_crew.proofs.Going.{r, heap, me_now, sound_now, knows_now}
@@ -86,12 +87,16 @@ module _ {G Op : Type 0} (c : Crew G Op) (l : Layout) (p : Place) (free : List �
   abbrev mine : Split c l p free (heap c l p free keeps M a name number op call begun b holds K (same_le K)) a (busy name number op call begun) b holds.actors
   mine = r c l p free keeps M a name number op call begun b holds K (same_le K)
 
+  -- those before it in the world
+  abbrev front : List Actor
+  front = stranger_of holds.stranger ∷ mine.before
+
   -- what the world knows of its machine
   pub known : (w : Working) → c.anatomy.machine op ≡ Works w → Knows p (λ x. false) M.state
-      (around (world.writings mine.before) (run.writing_at mine.actor.at) (world.writings mine.behind)) mine.actor.private w
-  known w is = subst (Knows p (λ x. false) M.state (around (world.writings mine.before) (run.writing_at mine.actor.at) (world.writings mine.behind))
+      (around (world.writings front) (run.writing_at mine.actor.at) (world.writings mine.behind)) mine.actor.private w
+  known w is = subst (Knows p (λ x. false) M.state (around (world.writings front) (run.writing_at mine.actor.at) (world.writings mine.behind))
       mine.actor.private) (at_it c l p free keeps M a name number op call begun b holds K (same_le K) w is)
-      (safe p (λ x. false) M.state mine.before mine.actor mine.behind (sound_now c l p free keeps M a name number op call begun b holds K (same_le K))).knows
+      (safe p (λ x. false) M.state front mine.actor mine.behind (sound_now c l p free keeps M a name number op call begun b holds K (same_le K))).knows
 
   loads : (m : HeldLoad) → c.anatomy.machine op ≡ Works (Loads m) → (t : Loading) → m.at ≡ t → (e : Event) → load_asks t m ≡ Some e → StepsTo e None
   loads m is Load_reads at e q = subst (λ x. StepsTo x None) (same_Some (Load m.word) e q)

@@ -25,7 +25,7 @@ use Rattle.flit_crew.specs.Machines.{Takes, Tags, MakesAt, deed_of, working_in, 
 use Rattle.flit_crew.specs.Heaps.{Heap, IsMine}
 use Rattle.flit_crew.specs.Anatomies.{own, hand_at, op_taken, gone_on}
 use Rattle.flit_crew.specs.Accounts.{HasUpdate, Rows}
-use Rattle.flit_crew.specs.Crews.{Crew, Holds, Facts}
+use Rattle.flit_crew.specs.Crews.{Crew, Holds, Facts, stranger_of}
 use Rattle.flit_crew.specs.Obligations.{Keeps, IsAfter}
 use Rattle.flit_crew.proofs.Tagging.{tags_none}
 use Rattle.flit_runs.proofs.Changes.{sound_rests}
@@ -47,6 +47,10 @@ module _ {G Op : Type 0} (c : Crew G Op) (l : Layout) (p : Place) (free : List �
 
   abbrev mine : Split c l p free (heap c l p free keeps M a name number op call begun b holds K (same_le K)) a (busy name number op call begun) b holds.actors
   mine = r c l p free keeps M a name number op call begun b holds K (same_le K)
+
+  -- those before it in the world
+  abbrev front : List Actor
+  front = stranger_of holds.stranger ∷ mine.before
 
   abbrev told : ℕ
   told = M.state.counter
@@ -138,9 +142,9 @@ module _ {G Op : Type 0} (c : Crew G Op) (l : Layout) (p : Place) (free : List �
         a ++ busy name number (op_taken c.anatomy p free op told) call (Some (first_at K begun)) ∷ b;
   })
   draw_step =
-      let sound : IsSound p (λ x. false) (world_of (after M.state Draw) mine.before mine.actor mine.behind) =
-      sound-turn p (λ x. false) (world_of M.state mine.before mine.actor mine.behind) (world_of (after M.state Draw) mine.before mine.actor mine.behind)
-      (draws M.state (mine.before ++ mine.actor ∷ mine.behind) few)
+      let sound : IsSound p (λ x. false) (world_of (after M.state Draw) front mine.actor mine.behind) =
+      sound-turn p (λ x. false) (world_of M.state front mine.actor mine.behind) (world_of (after M.state Draw) front mine.actor mine.behind)
+      (draws M.state (front ++ mine.actor ∷ mine.behind) few)
       (sound_now c l p free keeps M a name number op call begun b holds K (same_le K)) in
       let queue : m.hand.queue ≡ then_at.hand.queue = sym (ap (λ x. x.hand.queue) taken) in
       let deeds = deed_same c l p free keeps op (Takes then_at) after_it same_deed in
@@ -154,7 +158,7 @@ module _ {G Op : Type 0} (c : Crew G Op) (l : Layout) (p : Place) (free : List �
         words = holds.words;
         slots = holds.slots;
         same = refl;
-        sound = sound_rests p (λ x. false) (after M.state Draw) mine.before mine.actor mine.behind then_at.hand (ap writing_at at_rest)
+        sound = sound_rests p (λ x. false) (after M.state Draw) front mine.actor mine.behind then_at.hand (ap writing_at at_rest)
             (ap owed at_rest ∙ queue) sound;
         at = refl;
         name_same = ap (λ x. x.hand.name) taken ∙ ap (λ x. (hand_of x).name) (sym at_rest) ∙ mine.mine.name;

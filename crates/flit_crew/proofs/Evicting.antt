@@ -30,7 +30,7 @@ use Rattle.flit_crew.specs.Machines.{hand_of, Tags, SeesNoTag}
 use Rattle.flit_crew.proofs.Tagging.{tags_none}
 use Rattle.flit_crew.specs.Heaps.{Heap, heap_of, IsMine}
 use Rattle.flit_crew.specs.Accounts.{IsSteady}
-use Rattle.flit_crew.specs.Crews.{Crew, Holds}
+use Rattle.flit_crew.specs.Crews.{Crew, Holds, stranger_of}
 use Rattle.flit_crew.specs.Obligations.{Keeps}
 use Rattle.flit_crew.proofs.Acting.{Split}
 use Rattle.flit_crew.proofs.Moving.{h, mine, is_sound, moved_still}
@@ -55,13 +55,14 @@ module _ {G Op : Type 0} (c : Crew G Op) (l : Layout) (p : Place) (free : List �
       let w : Worker Op = sweeper name number (evict_started hand word) in
       let here = h c l p free keeps M a u b holds in
       let r = mine c l p free keeps M a u b holds in
+      let front : List Actor = stranger_of holds.stranger ∷ r.before in
       let g : Actor = record r.actor { at = Evicts (evict_started hand word) } in
-      let rests : IsSound p (λ y. false) (world_of M.state r.before (record r.actor { at = Idles hand }) r.behind) =
-      sound_rests p (λ y. false) M.state r.before r.actor r.behind hand (ap run.writing_at r.mine.at) (ap owed r.mine.at)
+      let rests : IsSound p (λ y. false) (world_of M.state front (record r.actor { at = Idles hand }) r.behind) =
+      sound_rests p (λ y. false) M.state front r.actor r.behind hand (ap run.writing_at r.mine.at) (ap owed r.mine.at)
       (is_sound c l p free keeps M a u b holds) in
-      let sound : IsSound p (λ y. false) (world_of M.state r.before g r.behind) =
-      sound-turn p (λ y. false) (world_of M.state r.before (record r.actor { at = Idles hand }) r.behind) (world_of M.state r.before g r.behind)
-      (start M.state r.before (record r.actor { at = Idles hand }) r.behind (ToEvict word) refl (subst (λ n. word < n) (sym holds.words) below)) rests in
+      let sound : IsSound p (λ y. false) (world_of M.state front g r.behind) =
+      sound-turn p (λ y. false) (world_of M.state front (record r.actor { at = Idles hand }) r.behind) (world_of M.state front g r.behind)
+      (start M.state front (record r.actor { at = Idles hand }) r.behind (ToEvict word) refl (subst (λ n. word < n) (sym holds.words) below)) rests in
       let steady : IsSteady c.anatomy l here u w = record { own = refl; ticket = refl; tight = λ t. t; makes = λ x e is q. absurd q } in
       moved_still c l p free keeps M a u b holds M.state w g refl holds.words holds.slots sound
       (tags_none p M.state M.state r.actor.at g.at refl (subst (λ y. (z bare : ℕ) → Tags z bare y → ⊥) (sym r.mine.at) (λ z bare i. i))) refl
@@ -93,9 +94,10 @@ module _ {G Op : Type 0} (c : Crew G Op) (l : Layout) (p : Place) (free : List �
       let w : Worker Op = idle name number m.hand in
       let here = h c l p free keeps M a u b holds in
       let r = mine c l p free keeps M a u b holds in
+      let front : List Actor = stranger_of holds.stranger ∷ r.before in
       let g : Actor = record r.actor { at = Idles m.hand } in
-      let sound : IsSound p (λ y. false) (world_of M.state r.before g r.behind) =
-      sound_rests p (λ y. false) M.state r.before r.actor r.behind m.hand (ap run.writing_at r.mine.at) (ap owed r.mine.at)
+      let sound : IsSound p (λ y. false) (world_of M.state front g r.behind) =
+      sound_rests p (λ y. false) M.state front r.actor r.behind m.hand (ap run.writing_at r.mine.at) (ap owed r.mine.at)
       (is_sound c l p free keeps M a u b holds) in
       let steady : IsSteady c.anatomy l here u w = record { own = refl; ticket = refl; tight = λ t. t; makes = λ x e is q. absurd q } in
       moved_still c l p free keeps M a u b holds M.state w g refl holds.words holds.slots sound
@@ -135,12 +137,13 @@ module _ {G Op : Type 0} (c : Crew G Op) (l : Layout) (p : Place) (free : List �
       let w : Worker Op = sweeper name number (evict_taken m told) in
       let here = h c l p free keeps M a u b holds in
       let r = mine c l p free keeps M a u b holds in
+      let front : List Actor = stranger_of holds.stranger ∷ r.before in
       let g : Actor = actor_gone p M.state e [] r.actor in
       let at : g.at ≡ Evicts (evict_taken m told) = ap (λ y. run.takes p y (answer M.state e)) r.mine.at ∙ ap (λ y. Evicts (evict_taken m y)) (sym is) in
-      let sound : IsSound p (λ y. false) (world_of M.state r.before g r.behind) =
-      subst (λ s. IsSound p (λ y. false) (world_of s r.before g r.behind)) same
-      (sound-turn p (λ y. false) (world_of M.state r.before r.actor r.behind) (world_of (after M.state e) r.before g r.behind)
-      (event M.state r.before r.actor r.behind e [] (ap (run.asks p) r.mine.at ∙ asks) tt) (is_sound c l p free keeps M a u b holds)) in
+      let sound : IsSound p (λ y. false) (world_of M.state front g r.behind) =
+      subst (λ s. IsSound p (λ y. false) (world_of s front g r.behind)) same
+      (sound-turn p (λ y. false) (world_of M.state front r.actor r.behind) (world_of (after M.state e) front g r.behind)
+      (event M.state front r.actor r.behind e [] (ap (run.asks p) r.mine.at ∙ asks) tt) (is_sound c l p free keeps M a u b holds)) in
       let steady : IsSteady c.anatomy l here u w = record {
         own = ap Rattle.flit_rows.specs.Shares.rows_in spare;
         ticket = ticket;
@@ -195,11 +198,14 @@ module _ {G Op : Type 0} (c : Crew G Op) (l : Layout) (p : Place) (free : List �
       r : Split c l p free (h c l p free keeps M a u b holds) a u b holds.actors
       r = mine c l p free keeps M a u b holds
 
+      front : List Actor
+      front = stranger_of holds.stranger ∷ r.before
+
       known : EvictKnows (λ x. false) M.state (Evict_writes_back raw) m.word
       known = subst (λ x. EvictKnows (λ y. false) M.state x m.word) at
-          (subst (Knows p (λ x. false) M.state (around (world.writings r.before) (run.writing_at r.actor.at) (world.writings r.behind)) r.actor.private)
+          (subst (Knows p (λ x. false) M.state (around (world.writings front) (run.writing_at r.actor.at) (world.writings r.behind)) r.actor.private)
           r.mine.at
-          (safe p (λ x. false) M.state r.before r.actor r.behind (is_sound c l p free keeps M a u b holds)).knows)
+          (safe p (λ x. false) M.state front r.actor r.behind (is_sound c l p free keeps M a u b holds)).knows)
 
       d : Event
       d = Persist m.word (bare_of raw)

@@ -20,6 +20,7 @@ use Rattle.flit_pv.specs.declared.exchanges.Exchanging.{Exchanging}
 use Rattle.flit_pv.specs.declared.exchanges.Exchanging.TheVariants.{Ready, Tries, TriesBare, WritesBack, Withdraws, Lowers, Ended}
 use Rattle.flit_pv.specs.Queues.{is_nil, persist_of}
 use Rattle.flit_pv.specs.Exchanges.{exchange_asks, ready_asks, exchange_takes, ready_takes, exchange_at, exchange_loses, tries_again, withdraw_asks}
+use Rattle.flit_runs.specs.Worlds.{Actor}
 use Rattle.flit_runs.specs.Workings as run
 use Rattle.flit_runs.specs.Workings.{Exchanges, goes_for, exchange_goes_for}
 use Rattle.flit_runs.specs.Worlds as world
@@ -32,7 +33,7 @@ use Rattle.flit_structure.specs.Meanings.{first_at}
 use Rattle.flit_crew.specs.Machines.{Works, exchanges_now, exchange_part, ToWin, HasLost}
 use Rattle.flit_crew.specs.Heaps.{Heap, IsOpen}
 use Rattle.flit_crew.specs.Anatomies.{op_taken}
-use Rattle.flit_crew.specs.Crews.{Crew, Holds}
+use Rattle.flit_crew.specs.Crews.{Crew, Holds, stranger_of}
 use Rattle.flit_crew.specs.Obligations.{Keeps}
 use Rattle.flit_crew.proofs.Acting.{Split}
 use Rattle.flit_crew.proofs.Going.{r, heap, sound_now}
@@ -65,6 +66,10 @@ module _ {G Op : Type 0} (c : Crew G Op) (l : Layout) (p : Place) (free : List �
   abbrev mine : Split c l p free (heap c l p free keeps M a name number op call begun b holds K (same_le K)) a (busy name number op call begun) b holds.actors
   mine = r c l p free keeps M a name number op call begun b holds K (same_le K)
 
+  -- those before it in the world
+  abbrev front : List Actor
+  front = stranger_of holds.stranger ∷ mine.before
+
   abbrev here : Heap G
   here = heap c l p free keeps M a name number op call begun b holds K (same_le K)
 
@@ -82,9 +87,9 @@ module _ {G Op : Type 0} (c : Crew G Op) (l : Layout) (p : Place) (free : List �
   exchange old = Exchange m.word old (dressed p.counted m.to)
 
   knows : ExchangeKnows p (λ x. false) M.state m.at m
-  knows = subst (Knows p (λ x. false) M.state (around (world.writings mine.before) (run.writing_at mine.actor.at) (world.writings mine.behind))
+  knows = subst (Knows p (λ x. false) M.state (around (world.writings front) (run.writing_at mine.actor.at) (world.writings mine.behind))
       mine.actor.private) (at_it c l p free keeps M a name number op call begun b holds K (same_le K) (Exchanges m) is)
-      (safe p (λ x. false) M.state mine.before mine.actor mine.behind (sound_now c l p free keeps M a name number op call begun b holds K (same_le K))).knows
+      (safe p (λ x. false) M.state front mine.actor mine.behind (sound_now c l p free keeps M a name number op call begun b holds K (same_le K))).knows
 
   reached : AllByRecursion (IsOpen l free here) (exchange_goes_for m.at m.word)
   reached = subst (λ y. AllByRecursion (IsOpen l free here) (goes_for y))

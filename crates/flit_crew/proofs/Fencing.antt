@@ -26,7 +26,7 @@ use Rattle.flit_pv.specs.Fences.{complete_taken}
 use Rattle.flit_pv.specs.Exchanges.{exchange_asks, exchange_takes}
 use Rattle.flit_runs.specs.Workings as run
 use Rattle.flit_runs.specs.Workings.{Working, Exchanges, Completes, goes_for, writing_at}
-use Rattle.flit_runs.specs.Worlds.{HasHad}
+use Rattle.flit_runs.specs.Worlds.{Actor, HasHad}
 use Rattle.flit_runs.specs.Soundness.{IsSafe, MayWriteBack, owed}
 use Rattle.flit_runs.proofs.Turns.{safe}
 use Rattle.flit_structure.specs.declared.workers.Worker.{Worker}
@@ -40,7 +40,7 @@ use Rattle.flit_crew.specs.Machines.{Machine, Works, Making, Made, MakesAt, deed
 use Rattle.flit_crew.specs.Heaps.{Heap, heap_of, IsOpen, at_word, at_shadow, waits_at}
 use Rattle.flit_crew.specs.Anatomies.{deed, deed_by, op_taken, gone_on}
 use Rattle.flit_crew.specs.Accounts.{HasUpdate}
-use Rattle.flit_crew.specs.Crews.{Crew, Who, Holds, IsFurther, Facts}
+use Rattle.flit_crew.specs.Crews.{Crew, Who, Holds, IsFurther, Facts, stranger_of}
 use Rattle.flit_crew.specs.Obligations.{Keeps, IsAfter}
 use Rattle.flit_crew.proofs.Acting.{Split}
 use Rattle.flit_crew.proofs.WritingBack.{persisted}
@@ -239,10 +239,14 @@ module _ {G Op : Type 0} (c : Crew G Op) (l : Layout) (p : Place) (free : List �
       (busy name number op call begun) b holds.actors
   mine_now = r c l p free keeps M a name number op call begun b holds 0 (least (length M.progress.settled))
 
+  -- those before it in the world
+  abbrev front : List Actor
+  front = stranger_of holds.stranger ∷ mine_now.before
+
   pub pairs_now : (w : Working) → c.anatomy.machine op ≡ Works w → AllByRecursion (MayWriteBack (λ x. false) M.state) (owed w)
   pairs_now w is = subst (λ x. AllByRecursion (MayWriteBack (λ y. false) M.state) (owed x))
       (at_it c l p free keeps M a name number op call begun b holds 0 (least (length M.progress.settled)) w is)
-      (safe p (λ x. false) M.state mine_now.before mine_now.actor mine_now.behind
+      (safe p (λ x. false) M.state front mine_now.actor mine_now.behind
       (sound_now c l p free keeps M a name number op call begun b holds 0 (least (length M.progress.settled)))).pairs
 
   pub completes : (m : HeldComplete) → c.anatomy.machine op ≡ Works (Completes m) → (n : Noted) (ns : List Noted) → m.fence.hand.queue ≡ n ∷ ns →

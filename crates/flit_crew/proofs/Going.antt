@@ -31,15 +31,15 @@ use Rattle.flit_structure.specs.Moments.{Moment, with_workers, busy}
 use Rattle.flit_structure.specs.Meanings.{first_at}
 use Rattle.flit_structure.proofs.Names.{all_both}
 use Rattle.flit_crew.specs.Machines.{Machine, Works, Takes, Tags, SeesNoTag, Fresh, working_in, hand_of, has_ended, is_complete, reads_for}
-use Rattle.flit_crew.specs.Heaps.{Heap, heap_of, IsOpen, IsShut, IsMine}
+use Rattle.flit_crew.specs.Heaps.{Heap, heap_of, IsOpen, IsHidden, IsMine}
 use Rattle.flit_crew.specs.Anatomies.{own, deed}
 use Rattle.flit_crew.specs.Accounts.{IsAny, HasUpdate, Rows, History}
-use Rattle.flit_crew.specs.Crews.{Crew, Who, AllAct, Holds, IsBusy, IsAlone, Facts, who_of}
+use Rattle.flit_crew.specs.Crews.{Crew, Who, AllAct, Holds, IsBusy, IsAlone, Facts, who_of, stranger_of}
 use Rattle.flit_crew.specs.Obligations.{Keeps, IsAfter}
 use Rattle.flit_crew.proofs.Tagging.{TagsGo, tags_event}
 use Rattle.flit_crew.proofs.Alone.{alone_event, alone_sees, unwritten_tags}
 use Rattle.flit_crew.proofs.Knowing.{facts_more}
-use Rattle.flit_crew.proofs.Acting.{Split, shut_of}
+use Rattle.flit_crew.proofs.Acting.{Split, hidden_of}
 use Rattle.flit_crew.proofs.Counting.{workers_few, names_within}
 use Rattle.flit_crew.proofs.Moving.{h, mine, is_sound}
 use Rattle.flit_crew.proofs.Arriving.{IsSame}
@@ -88,12 +88,12 @@ module _ {G Op : Type 0} (c : Crew G Op) (l : Layout) (p : Place) (free : List �
     seen = λ counted. subst (AllByRecursion (λ x. is_tagged x.raw ≡ false)) (sym seen) (k.seen counted);
   }
 
-  pub all_shut : (k : Heap G) (us : List (Worker Op)) (gs : List Actor) → AllAct c l p free k us gs →
-      AllByRecursion (λ o. AllByRecursion (IsShut l free k) o.private) gs
-  all_shut k [] [] m = tt
-  all_shut k [] (g ∷ gs) m = absurd m
-  all_shut k (u ∷ us) [] m = absurd m
-  all_shut k (u ∷ us) (g ∷ gs) m = (shut_of c l p free k u g m.0, all_shut k us gs m.1)
+  pub all_hidden : (k : Heap G) (us : List (Worker Op)) (gs : List Actor) → AllAct c l p free k us gs →
+      AllByRecursion (λ o. AllByRecursion (IsHidden l free k) o.private) gs
+  all_hidden k [] [] m = tt
+  all_hidden k [] (g ∷ gs) m = absurd m
+  all_hidden k (u ∷ us) [] m = absurd m
+  all_hidden k (u ∷ us) (g ∷ gs) m = (hidden_of c l p free k u g m.0, all_hidden k us gs m.1)
 
   module _ (keeps : Keeps c l p free) (M : Moment Op) (a : List (Worker Op)) (name number : ℕ) (op : Op) (call : Call) (begun : Option ℕ) (b : List (Worker Op))
       (holds : Holds c l p free (with_workers M (a ++ busy name number op call begun ∷ b)))
@@ -108,7 +108,11 @@ module _ {G Op : Type 0} (c : Crew G Op) (l : Layout) (p : Place) (free : List �
     abbrev pub r : Split c l p free heap a u b holds.actors
     r = mine c l p free keeps M a u b holds
 
-    pub sound_now : IsSound p (λ word. false) (world_of M.state r.before r.actor r.behind)
+    -- those before it in the world
+    abbrev pub front : List Actor
+    front = stranger_of holds.stranger ∷ r.before
+
+    pub sound_now : IsSound p (λ word. false) (world_of M.state front r.actor r.behind)
     sound_now = is_sound c l p free keeps M a u b holds
 
     abbrev pub now : Option ℕ
@@ -157,19 +161,19 @@ module _ {G Op : Type 0} (c : Crew G Op) (l : Layout) (p : Place) (free : List �
 
     -- the world after its event
     pub turned : (e : Event) (news : List Seen) → run.asks p r.actor.at ≡ Some e →
-        AllByRecursion (Sees (λ word. false) M.state (r.before ++ r.actor ∷ r.behind) r.actor.at) news →
-        IsSound p (λ word. false) (world_of (after M.state e) r.before (actor_gone p M.state e news r.actor) r.behind)
-    turned e news asked sees = sound-turn p (λ word. false) (world_of M.state r.before r.actor r.behind)
-        (world_of (after M.state e) r.before (actor_gone p M.state e news r.actor) r.behind)
-        (event M.state r.before r.actor r.behind e news asked sees) sound_now
+        AllByRecursion (Sees (λ word. false) M.state (front ++ r.actor ∷ r.behind) r.actor.at) news →
+        IsSound p (λ word. false) (world_of (after M.state e) front (actor_gone p M.state e news r.actor) r.behind)
+    turned e news asked sees = sound-turn p (λ word. false) (world_of M.state front r.actor r.behind)
+        (world_of (after M.state e) front (actor_gone p M.state e news r.actor) r.behind)
+        (event M.state front r.actor r.behind e news asked sees) sound_now
 
     -- the tags after its event
     pub tags_now : (e : Event) → run.asks p r.actor.at ≡ Some e → TagsGo p M.state (after M.state e) r.actor.at (run.takes p r.actor.at (answer M.state e))
     tags_now e asked =
-        let mine_safe = safe p (λ word. false) M.state r.before r.actor r.behind sound_now in
+        let mine_safe = safe p (λ word. false) M.state front r.actor r.behind sound_now in
         tags_event p M.state sound_now.suits.slots r.actor.private
         (all_weaker (IsPWord (λ x. false) M.state) (λ w. w < length M.state.words) (λ w k. k.0) r.actor.private mine_safe.plain)
-        (around (writings r.before) (run.writing_at r.actor.at) (writings r.behind)) r.actor.at mine_safe.knows e asked
+        (around (writings front) (run.writing_at r.actor.at) (writings r.behind)) r.actor.at mine_safe.knows e asked
 
     -- where it is the only one no tag shows
     only_one : l.workers ≡ 1 → (r.before ≡ []) × (r.behind ≡ [])
@@ -198,13 +202,14 @@ module _ {G Op : Type 0} (c : Crew G Op) (l : Layout) (p : Place) (free : List �
             more : (m n k : ℕ) → k ≡ m + suc n → suc k ≤ 1 → ⊥
             more m n k e i = omega (arith, e, i)
 
-    none_written : l.workers ≡ 1 → run.writing_at r.actor.at ≡ None → around (writings r.before) (run.writing_at r.actor.at) (writings r.behind) ≡ []
-    none_written one none = ap (λ w. around (writings r.before) w (writings r.behind)) none
-        ∙ ap (λ xs. around (writings xs) None (writings r.behind)) (only_one one).0 ∙ ap (λ ys. around [] None (writings ys)) (only_one one).1
+    none_written : l.workers ≡ 1 → run.writing_at r.actor.at ≡ None → around (writings front) (run.writing_at r.actor.at) (writings r.behind) ≡ []
+    none_written one none = ap (λ w. around (writings front) w (writings r.behind)) none
+        ∙ ap (λ xs. around (writings (stranger_of holds.stranger ∷ xs)) None (writings r.behind)) (only_one one).0
+        ∙ ap (λ ys. around [] None (writings ys)) (only_one one).1
 
     no_count : l.workers ≡ 1 → run.writing_at r.actor.at ≡ None → (slot : ℕ) → count_at M.state slot ≡ 0
     no_count one none slot = ⊎_elim
-        (λ below. (run_holds p (λ word. false) M.state r.before r.actor r.behind sound_now).covers.counts slot below
+        (λ below. (run_holds p (λ word. false) M.state front r.actor r.behind sound_now).covers.counts slot below
         ∙ ap (count_by (holds_up p.slot slot)) (none_written one none))
         (λ le. get_or_past M.state.slots slot 0 le) (cases_lt slot (length M.state.slots))
 
@@ -224,12 +229,12 @@ module _ {G Op : Type 0} (c : Crew G Op) (l : Layout) (p : Place) (free : List �
             (subst (IsAny (λ g. Tags v (bare_of (word_at M.state v)) g.at)) r.is (holds.tagged counted v q))))
 
     pub alone_now : (e : Event) (news : List Seen) → run.asks p r.actor.at ≡ Some e →
-        AllByRecursion (Sees (λ word. false) M.state (r.before ++ r.actor ∷ r.behind) r.actor.at) news → l.workers ≡ 1 →
+        AllByRecursion (Sees (λ word. false) M.state (front ++ r.actor ∷ r.behind) r.actor.at) news → l.workers ≡ 1 →
         IsAlone c l p free (actor_gone p M.state e news r.actor)
     alone_now e news asked sees one =
-        let mine_safe = safe p (λ word. false) M.state r.before r.actor r.behind sound_now in
+        let mine_safe = safe p (λ word. false) M.state front r.actor r.behind sound_now in
         let was = r.mine.alone one in
-        let ws = around (writings r.before) (run.writing_at r.actor.at) (writings r.behind) in
+        let ws = around (writings front) (run.writing_at r.actor.at) (writings r.behind) in
         let k = alone_event p M.state sound_now.suits.slots r.actor.private ws r.actor.at (no_count one)
         (no_tag one) mine_safe.pairs mine_safe.knows was.machine e
         asked in
@@ -237,8 +242,8 @@ module _ {G Op : Type 0} (c : Crew G Op) (l : Layout) (p : Place) (free : List �
           machine = k.0;
           queued = k.1 ∙ was.queued;
           seen = λ counted. all_both (λ x. is_tagged x.raw ≡ false) news r.actor.seen
-              (all_weaker (Sees (λ word. false) M.state (r.before ++ r.actor ∷ r.behind) r.actor.at) (λ x. is_tagged x.raw ≡ false)
-              (λ x h. alone_sees p M.state (r.before ++ r.actor ∷ r.behind) r.actor.private ws r.actor.at mine_safe.knows
+              (all_weaker (Sees (λ word. false) M.state (front ++ r.actor ∷ r.behind) r.actor.at) (λ x. is_tagged x.raw ≡ false)
+              (λ x h. alone_sees p M.state (front ++ r.actor ∷ r.behind) r.actor.private ws r.actor.at mine_safe.knows
               (λ none. no_tag one none counted) x h) news
               sees) (was.seen counted);
         }
@@ -253,7 +258,7 @@ module _ {G Op : Type 0} (c : Crew G Op) (l : Layout) (p : Place) (free : List �
       pub words : length s.words ≡ words_of l
       pub slots : length s.slots ≡ l.slots
       pub same : let N : Moment Op = record M { state = s } in heap ≡ heap_of N holds.given holds.ghost
-      pub sound : IsSound p (λ word. false) (world_of s r.before g r.behind)
+      pub sound : IsSound p (λ word. false) (world_of s front g r.behind)
       pub at : g.at ≡ working_in m
       pub name_same : (hand_of g.at).name ≡ name
       pub number_same : (hand_of g.at).number ≡ number

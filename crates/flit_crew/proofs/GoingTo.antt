@@ -12,7 +12,7 @@ use Rattle.flit_place.specs.Tags.{Place}
 use Rattle.flit_pv.specs.declared.hands.Hand.{Hand}
 use Rattle.flit_runs.specs.Workings as run
 use Rattle.flit_runs.specs.Workings.{Idles, leaves, confirms, goes_for}
-use Rattle.flit_runs.specs.Worlds.{Actor, world_of, writings}
+use Rattle.flit_runs.specs.Worlds.{Actor, IsAway, world_of, writings}
 use Rattle.flit_runs.proofs.Turns.{safe}
 use Rattle.flit_runs.proofs.ExchangeSteps.{around}
 use Rattle.flit_runs.specs.Soundness.{IsSound}
@@ -22,12 +22,13 @@ use Rattle.flit_structure.specs.Meanings.{first_at}
 use Rattle.flit_place.proofs.Splits.{all_middle}
 use Rattle.flit_structure.proofs.Names.{all_both}
 use Rattle.flit_crew.specs.Machines.{Machine, SeesNoTag, MakesAt, working_in, hand_in, hand_of, has_ended, reads_for}
-use Rattle.flit_crew.specs.Heaps.{Heap, heap_of, IsOpen, IsShut, IsMine, AreOld}
+use Rattle.flit_crew.specs.Heaps.{Heap, heap_of, IsOpen, IsWordOf, IsHidden, IsMine, AreOld}
 use Rattle.flit_crew.specs.Anatomies.{own, own_in, deed, gone_on, gone_by}
 use Rattle.flit_crew.specs.Accounts.{HasUpdate, Rows, History, IsSteady, IsTight, AreTight}
-use Rattle.flit_crew.specs.Crews.{Crew, Who, AllAct, Holds, IsAlone, Facts, OwnsRows, left}
+use Rattle.flit_crew.specs.Crews.{Crew, Who, AllAct, Holds, IsAlone, Facts, OwnsRows, left, stranger_of}
 use Rattle.flit_crew.specs.Obligations.{Keeps, IsAfter}
 use Rattle.flit_runs.proofs.Changes.{sound_leaves}
+use Rattle.flit_crew.proofs.Outside.{outside_hidden, outside_away}
 use Rattle.flit_crew.proofs.Tagging.{TagsGo, tags_over, ended_tags}
 use Rattle.flit_crew.proofs.Alone.{left_queued}
 use Rattle.flit_crew.proofs.Placing.{pool_fit}
@@ -40,7 +41,7 @@ use Rattle.flit_crew.proofs.Accounting.{rows_steady, history_steady}
 use Rattle.flit_crew.proofs.Owning.{old_needs, IsOwn, own_row, own_once, own_away, lower}
 use Rattle.flit_crew.proofs.Moving.{moved, still_moves, old_left, old_right}
 use Rattle.flit_crew.proofs.Arriving.{arrives, Arrived, resting}
-use Rattle.flit_crew.proofs.Going.{alone_same, r, heap, me_now, busy_now, since, leaves_same, ended_asks, all_shut, Went, Gone}
+use Rattle.flit_crew.proofs.Going.{alone_same, r, heap, me_now, busy_now, since, leaves_same, ended_asks, all_hidden, Went, Gone}
 
 module _ {G Op : Type 0} (c : Crew G Op) (l : Layout) (p : Place) (free : List ℕ) where
   module _ (keeps : Keeps c l p free) (M : Moment Op) (a : List (Worker Op)) (name number : ℕ) (op : Op) (call : Call) (begun : Option ℕ) (b : List (Worker Op))
@@ -48,6 +49,10 @@ module _ {G Op : Type 0} (c : Crew G Op) (l : Layout) (p : Place) (free : List �
       (s : State) (q : Progress) (given : List ℕ) (ghost : G) where
     abbrev mine : Split c l p free (heap c l p free keeps M a name number op call begun b holds n settled) a (busy name number op call begun) b holds.actors
     mine = r c l p free keeps M a name number op call begun b holds n settled
+
+    -- those before it in the world
+    abbrev front : List Actor
+    front = stranger_of holds.stranger ∷ mine.before
 
     abbrev here : Heap G
     here = heap c l p free keeps M a name number op call begun b holds n settled
@@ -74,7 +79,7 @@ module _ {G Op : Type 0} (c : Crew G Op) (l : Layout) (p : Place) (free : List �
       pub moves : Moves c l p free (Some name) here k
       pub before : AllStay c l p free (Some name) here k a mine.before
       pub behind : AllStay c l p free (Some name) here k b mine.behind
-      pub sound : IsSound p (λ word. false) (world_of s mine.before g mine.behind)
+      pub sound : IsSound p (λ word. false) (world_of s front g mine.behind)
       pub at : g.at ≡ working_in m
       pub name_same : (hand_of g.at).name ≡ name
       pub number_same : (hand_of g.at).number ≡ number
@@ -108,7 +113,7 @@ module _ {G Op : Type 0} (c : Crew G Op) (l : Layout) (p : Place) (free : List �
           most = mine.mine.most;
           reached = subst (λ y. AllByRecursion (IsOpen l free k) (goes_for y)) (sym (published g w).at) w.reached;
           reading = subst (λ y. AllByRecursion (IsOpen l free k) (reads_for y)) (sym (published g w).at) w.reading;
-          mine = all_published p s mine.before g mine.behind (IsMine l free k (own c.anatomy (c.anatomy.with_machine op m))) (published g w) w.mine_now;
+          mine = all_published p s front g mine.behind (IsMine l free k (own c.anatomy (c.anatomy.with_machine op m))) (published g w) w.mine_now;
           published = (published g w).published;
           alone = λ one. alone_same c l p free g (published g w).actor (published g w).at (published g w).seen (w.alone one);
           doing = record {
@@ -118,16 +123,16 @@ module _ {G Op : Type 0} (c : Crew G Op) (l : Layout) (p : Place) (free : List �
             waits = λ e. absurd (some_none (first_at n begun) e);
             facts = subst (Facts c l p free k (me_as (published g w).actor) (c.anatomy.with_machine op m)) (sym (keeps.put op m w.after_it))
                 (facts_more c l p free k (me_as g) (me_as (published g w).actor) (c.anatomy.with_machine op m) refl
-                (further_published p s mine.before g mine.behind name number call now (published g w)).needs m w.facts);
+                (further_published p s front g mine.behind name number call now (published g w)).needs m w.facts);
             going = ap (has_ended p) (keeps.put op m w.after_it) ∙ going;
             update = w.update;
             knows = keeps.more k (me_as g) (me_as (published g w).actor) (c.anatomy.with_machine op m) w.moves.is
-                (further_published p s mine.before g mine.behind name number call now (published g w)) w.knows;
+                (further_published p s front g mine.behind name number call now (published g w)) w.knows;
           };
         }) w.rows w.history
       where
-        published : (y : Actor) → WentTo y m → Published p s mine.before y mine.behind
-        published y v = published_now p s mine.before y mine.behind v.sound
+        published : (y : Actor) → WentTo y m → Published p s front y mine.behind
+        published y v = published_now p s front y mine.behind v.sound
 
     goes_over : (g : Actor) (m : Machine) → WentTo g m → has_ended p m ≡ true → GoneTo (c.anatomy.resumed op m)
     goes_over g m w ended =
@@ -136,10 +141,10 @@ module _ {G Op : Type 0} (c : Crew G Op) (l : Layout) (p : Place) (free : List �
         let with : Op = c.anatomy.with_machine op m in
         let over : Op = c.anatomy.resumed op m in
         let asks : run.asks p g.at ≡ None = ap (run.asks p) w.at ∙ ended_asks p m ended in
-        let rests : IsSound p (λ word. false) (world_of s mine.before (resting me hand) mine.behind) =
+        let rests : IsSound p (λ word. false) (world_of s front (resting me hand) mine.behind) =
         subst (λ x. let v : Actor = record { at = Idles (leaves x); needs = confirms x ++ g.needs; seen = g.seen; private = g.private } in
-        IsSound p (λ word. false) (world_of s mine.before v mine.behind)) w.at
-        (sound_leaves p (λ word. false) s mine.before g mine.behind asks w.sound) in
+        IsSound p (λ word. false) (world_of s front v mine.behind)) w.at
+        (sound_leaves p (λ word. false) s front g mine.behind asks w.sound) in
         let alone : l.workers ≡ 1 → IsAlone c l p free (resting me hand) = λ one. record {
           machine = tt;
           queued = left_queued p (working_in m) (ended_asks p m ended) (subst (SeesNoTag p) w.at (w.alone one).machine)
@@ -147,8 +152,8 @@ module _ {G Op : Type 0} (c : Crew G Op) (l : Layout) (p : Place) (free : List �
           seen = (w.alone one).seen;
         } in
         let known = busy_now c l p free keeps M a name number op call begun b holds n settled in
-        let old : AreOld k g.needs = old_needs p (λ word. false) s (around (writings mine.before) (run.writing_at g.at) (writings mine.behind)) k g
-        w.sound.words refl (safe p (λ word. false) s mine.before g mine.behind w.sound) in
+        let old : AreOld k g.needs = old_needs p (λ word. false) s (around (writings front) (run.writing_at g.at) (writings mine.behind)) k g
+        w.sound.words refl (safe p (λ word. false) s front g mine.behind w.sound) in
         let own_with : (row : ℕ) → Contains (own c.anatomy with) row → IsOwn (λ v. own_in c.anatomy v.doing) free given a b row =
         λ row k. own_row (λ v. own_in c.anatomy v.doing) free s.counter given a (busy name number with call now) b row (lower free holds.pool.rising)
         w.rows.dealt k in
@@ -161,23 +166,29 @@ module _ {G Op : Type 0} (c : Crew G Op) (l : Layout) (p : Place) (free : List �
               (all_middle (IsTight c.anatomy l) a (busy name number with call now) b w.rows.tight);
         } in
         let goes = keeps.resumes k (me_as g) op m w.after_it w.moves.is known.served mine.mine.most
-        ((leaves_same (working_in m)).name ∙ ap (λ y. (hand_of y).name) (sym w.at) ∙ w.name_same) (since_now g m w) old known.same_call ended w.facts owns w.knows in
+        ((leaves_same (working_in m)).name ∙ ap (λ y. (hand_of y).name) (sym w.at) ∙ w.name_same)
+        (since_now g m w) old known.same_call ended w.facts owns w.knows in
         let coherent = keeps.coherent k (me_as g) op m w.after_it w.moves.is known.same_call ended owns w.knows in
         let names = leaves_same (working_in m) in
         let left_now : AllAct c l p free k a mine.before = all_last c l p free keeps (Some name) here k w.moves a mine.before w.before mine.left in
         let right_now : AllAct c l p free k b mine.behind = all_last c l p free keeps (Some name) here k w.moves b mine.behind w.behind mine.right in
-        let others = all_both (λ o. AllByRecursion (IsShut l free k) o.private) mine.before mine.behind (all_shut c l p free k a mine.before left_now)
-        (all_shut c l p free k b mine.behind right_now) in
+        let others = all_both (λ o. AllByRecursion (IsHidden l free k) o.private) front mine.behind
+        (outside_hidden l free k holds.opening holds.stranger holds.outside, all_hidden c l p free k a mine.before left_now)
+        (all_hidden c l p free k b mine.behind right_now) in
         let own_is : (row : ℕ) → Contains (own c.anatomy over) row → IsOwn (λ v. own_in c.anatomy v.doing) free given a b row =
         λ row has. own_row (λ v. own_in c.anatomy v.doing) free s.counter given a (busy name number with call now) b row (lower free holds.pool.rising)
         w.rows.dealt (subst (λ rows. Contains rows row) coherent.own has) in
-        let x : Arrived c l p free k holds.accepted s w.words refl mine.before mine.behind others over
-        (λ row has. ((own_is row has).pool, (own_is row has).unlinked))
-        (λ row v has of. own_away c l p free k holds.pool a b mine.before mine.behind left_now right_now row v (own_is row has) of) me hand =
-        arrives c l p free k holds.accepted s w.words refl mine.before mine.behind others over (λ row has. ((own_is row has).pool, (own_is row has).unlinked))
-        (λ row v has of. own_away c l p free k holds.pool a b mine.before mine.behind left_now right_now row v (own_is row has) of) me hand
+        let unreached : (row v : ℕ) → Contains (own c.anatomy over) row → IsWordOf l row v →
+        AllByRecursion (λ o. IsAway o.private v × IsAway (goes_for o.at) v) (front ++ mine.behind) = λ row v has of. (
+          (outside_away l free k holds.pool holds.opening holds.stranger holds.outside row v (own_is row has).pool of, tt),
+          own_away c l p free k holds.pool a b mine.before mine.behind left_now right_now row v (own_is row has) of,
+        ) in
+        let x : Arrived c l p free k holds.accepted s w.words refl front mine.behind others over
+        (λ row has. ((own_is row has).pool, (own_is row has).unlinked)) unreached me hand =
+        arrives c l p free k holds.accepted s w.words refl front mine.behind others over (λ row has. ((own_is row has).pool, (own_is row has).unlinked))
+        unreached me hand
         (subst (λ rows. AllByRecursion (IsMine l free k rows) g.private) (sym coherent.own) w.mine_now) rests alone goes in
-        let y : Published p s mine.before x.actor mine.behind = published_now p s mine.before x.actor mine.behind x.sound in
+        let y : Published p s front x.actor mine.behind = published_now p s front x.actor mine.behind x.sound in
         let steady : IsSteady c.anatomy l k (busy name number with call now) (busy name number over call now) = record {
           own = coherent.own;
           ticket = ap (λ y. (hand_of y).ticket) (sym x.at) ∙ x.ticket ∙ names.ticket ∙ ap (λ y. (hand_in y).ticket) (sym (keeps.put op m w.after_it));
@@ -194,7 +205,7 @@ module _ {G Op : Type 0} (c : Crew G Op) (l : Layout) (p : Place) (free : List �
           most = mine.mine.most;
           reached = subst (λ z. AllByRecursion (IsOpen l free k) (goes_for z)) (sym y.at) x.reached;
           reading = subst (λ z. AllByRecursion (IsOpen l free k) (reads_for z)) (sym y.at) x.reading;
-          mine = all_published p s mine.before x.actor mine.behind (IsMine l free k (own c.anatomy over)) y x.mine;
+          mine = all_published p s front x.actor mine.behind (IsMine l free k (own c.anatomy over)) y x.mine;
           published = y.published;
           alone = λ one. alone_same c l p free x.actor y.actor y.at y.seen (x.alone one);
           doing = record {
@@ -203,10 +214,10 @@ module _ {G Op : Type 0} (c : Crew G Op) (l : Layout) (p : Place) (free : List �
             first = since_now g m w;
             waits = λ e. absurd (some_none (first_at n begun) e);
             facts = facts_more c l p free k (me_as x.actor) (me_as y.actor) over refl
-                (further_published p s mine.before x.actor mine.behind name number call now y).needs (c.anatomy.machine over) x.facts;
+                (further_published p s front x.actor mine.behind name number call now y).needs (c.anatomy.machine over) x.facts;
             going = x.going;
             update = subst (λ d. HasUpdate k name number call (first_at n begun) d) (sym coherent.deed) w.update;
-            knows = keeps.more k (me_as x.actor) (me_as y.actor) over w.moves.is (further_published p s mine.before x.actor mine.behind name number call now y)
+            knows = keeps.more k (me_as x.actor) (me_as y.actor) over w.moves.is (further_published p s front x.actor mine.behind name number call now y)
                 x.knows;
           };
         })

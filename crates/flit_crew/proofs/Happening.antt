@@ -28,15 +28,16 @@ use Rattle.flit_structure.specs.Meanings as structure
 use Rattle.flit_structure.specs.Meanings.{Meaning, Happens, hiring, reordering, beginning, finishing, evicting, evicted, making, writing_back, asks, reply_at, moment_after}
 use Rattle.flit_structure.specs.Lawful.{IsSized, IsNearShadow, AreMade, IsUnderWay, IsOfHand, AreNamed, IsNamed}
 use Rattle.flit_crew.specs.Machines.{hand_of}
-use Rattle.flit_crew.specs.Heaps.{Heap, heap_of, IsShut}
+use Rattle.flit_crew.specs.Heaps.{Heap, heap_of, IsHidden}
 use Rattle.flit_crew.specs.Anatomies.{doing_working}
 use Rattle.flit_crew.specs.Accounts.{IsAny, HasNumber, IsMaker, Makes}
-use Rattle.flit_crew.specs.Crews.{Crew, AllAct, Holds}
+use Rattle.flit_crew.specs.Crews.{Crew, AllAct, Holds, stranger_of}
 use Rattle.flit_crew.specs.CrewMeanings.{Bounds, crew_meaning}
 use Rattle.flit_crew.specs.Obligations.{Keeps}
 use Rattle.flit_crew.proofs.WritingBack.{written_back, word_bare}
 use Rattle.flit_crew.proofs.Arriving.{away}
-use Rattle.flit_crew.proofs.Going.{all_shut}
+use Rattle.flit_crew.proofs.Going.{all_hidden}
+use Rattle.flit_crew.proofs.Outside.{outside_hidden}
 use Rattle.flit_crew.proofs.Hiring.{hires, orders}
 use Rattle.flit_crew.proofs.Beginning.{begins, ends}
 use Rattle.flit_crew.proofs.Evicting.{evicts, evict_over, evict_steps}
@@ -135,9 +136,9 @@ module _ {G Op : Type 0} (c : Crew G Op) (l : Layout) (p : Place) (free : List �
   shows M word e h is =
       let k : Heap G = heap_of M h.given h.ghost in
       let w = h.history.waits word e is in
-      covered p (λ x. false) (record { state = M.state; workers = h.actors }) h.sound word refl
-      (all_weaker (λ g. AllByRecursion (IsShut l free k) g.private) (λ g. IsAway g.private word) (λ g shut. away c l p free k word w.0 g.private shut) h.actors
-      (all_shut c l p free k M.workers h.actors h.acts))
+      covered p (λ x. false) (record { state = M.state; workers = stranger_of h.stranger ∷ h.actors }) h.sound word refl
+      (all_weaker (λ g. AllByRecursion (IsHidden l free k) g.private) (λ g. IsAway g.private word) (λ g shut. away c l p free k word w.0 g.private shut)
+      (stranger_of h.stranger ∷ h.actors) (outside_hidden l free k h.opening h.stranger h.outside, all_hidden c l p free k M.workers h.actors h.acts))
       (sym (ap version_of (word_bare M.state.words word) ∙ version-bare (word_at M.state word)) ∙ w.1)
 
   -- ---- the updates

@@ -22,7 +22,7 @@ use Rattle.flit_words.specs.Words.{bare_of}
 use Rattle.flit_model.specs.States.{word_at}
 use Rattle.flit_crew.specs.Machines.{Tags}
 use Rattle.flit_crew.specs.Accounts.{IsAny, IsTight, HasNumber, IsMaker}
-use Rattle.flit_crew.specs.Crews.{Crew, Acts, AllAct, Holds}
+use Rattle.flit_crew.specs.Crews.{Crew, Acts, AllAct, Holds, stranger_of}
 use Rattle.flit_crew.proofs.Acting.{join_acts}
 use Rattle.flit_runs.proofs.Changes.{sound_hires, sound_swap}
 use Rattle.flit_crew.proofs.Counting.{workers_few, names_within}
@@ -46,11 +46,16 @@ module _ {G Op : Type 0} (c : Crew G Op) (l : Layout) (p : Place) (free : List �
     given = holds.given;
     ghost = holds.ghost;
     actors = me ∷ holds.actors;
+    opening = holds.opening;
+    pool_is = holds.pool_is;
+    stranger = holds.stranger;
+    outside = holds.outside;
     accepted = holds.accepted;
     pool = holds.pool;
     words = holds.words;
     slots = holds.slots;
-    sound = sound_hires p (λ word. false) M.state holds.actors (first_hand name) refl few holds.sound;
+    sound = sound_swap p (λ word. false) M.state [] (me ∷ []) (stranger_of holds.stranger ∷ []) holds.actors
+        (sound_hires p (λ word. false) M.state (stranger_of holds.stranger ∷ holds.actors) (first_hand name) refl few holds.sound);
     tagged = λ counted word tag. inr (holds.tagged counted word tag);
     kept = holds.kept;
     acts = (mine, holds.acts);
@@ -96,13 +101,13 @@ module _ {G Op : Type 0} (c : Crew G Op) (l : Layout) (p : Place) (free : List �
             (refl, refl);
       }
 
-      few : suc (length holds.actors) < 2 ^ 64 - 1
+      few : suc (suc (length holds.actors)) < 2 ^ 64 - 1
       few = small (length holds.actors) (length M.workers) l.workers (same_number c l p free (heap_of M holds.given holds.ghost) M.workers holds.actors
           holds.acts)
           (workers_few l.workers (hired name ∷ M.workers) (new, holds.different)
           ((least, most), names_within c l p free (heap_of M holds.given holds.ghost) M.workers holds.actors holds.acts)) holds.accepted.most_worker
         where
-          small : (g u w : ℕ) → g ≡ u → suc u ≤ w → w ≤ 64 → suc g < 2 ^ 64 - 1
+          small : (g u w : ℕ) → g ≡ u → suc u ≤ w → w ≤ 64 → suc (suc g) < 2 ^ 64 - 1
           small g u w e i j = omega (arith, e, i, j)
 
       zero_first : (a b t : ℕ) → a + b ≡ t → (0 + a) + b ≡ t
@@ -190,12 +195,16 @@ module _ {G Op : Type 0} (c : Crew G Op) (l : Layout) (p : Place) (free : List �
     given = holds.given;
     ghost = holds.ghost;
     actors = one.left ++ (three.left ++ (two.left ++ three.right));
+    opening = holds.opening;
+    pool_is = holds.pool_is;
+    stranger = holds.stranger;
+    outside = holds.outside;
     accepted = holds.accepted;
     pool = holds.pool;
     words = holds.words;
     slots = holds.slots;
-    sound = sound_swap p (λ word. false) M.state one.left two.left three.left three.right
-        (subst (λ gs. Rattle.flit_runs.specs.Soundness.IsSound p (λ word. false) (record { state = M.state; workers = gs }))
+    sound = sound_swap p (λ word. false) M.state (stranger_of holds.stranger ∷ one.left) two.left three.left three.right
+        (subst (λ gs. Rattle.flit_runs.specs.Soundness.IsSound p (λ word. false) (record { state = M.state; workers = stranger_of holds.stranger ∷ gs }))
         (one.is ∙ ap (λ gs. one.left ++ gs) (two.is ∙ ap (λ gs. two.left ++ gs) three.is)) holds.sound);
     tagged = λ counted word tag. any_swap (λ g. Tags word (bare_of (word_at M.state word)) g.at) one.left two.left three.left three.right
         (subst (IsAny (λ g. Tags word (bare_of (word_at M.state word)) g.at))

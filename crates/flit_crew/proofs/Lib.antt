@@ -5,6 +5,7 @@ pub mod Accounting
 pub mod Recording
 pub mod Dealing
 pub mod Placing
+pub mod Outside
 pub mod Owning
 pub mod Tagging
 pub mod Alone
@@ -40,6 +41,7 @@ pub mod CallSteps
 pub mod Happening
 pub mod Asking
 pub mod Telling
+pub mod Foreign
 pub mod Limiting
 pub mod Replying
 pub mod Opening

@@ -14,7 +14,7 @@ use Rattle.flit_structure.specs.Moments.{Moment, with_workers}
 use Rattle.flit_structure.proofs.Names.{different_put, others_new, all_left, all_right}
 use Rattle.flit_crew.specs.Heaps.{Heap, heap_of, at_shadow, AreOld}
 use Rattle.flit_crew.specs.Accounts.{Rows, History}
-use Rattle.flit_crew.specs.Crews.{Crew, Acts, Holds}
+use Rattle.flit_crew.specs.Crews.{Crew, Acts, Holds, stranger_of}
 use Rattle.flit_crew.specs.Obligations.{Keeps}
 use Rattle.flit_crew.proofs.Acting.{Split, split_acts, join_acts, Moves, AllStay, all_last, all_stay}
 use Rattle.flit_crew.proofs.Tagging.{TagsGo, AreTagged, tagged_go}
@@ -30,24 +30,28 @@ module _ {G Op : Type 0} (c : Crew G Op) (l : Layout) (p : Place) (free : List �
   abbrev pub mine : Split c l p free h a u b holds.actors
   mine = split_acts c l p free h a u b holds.actors holds.acts
 
-  pub is_sound : IsSound p (λ word. false) (world_of M.state mine.before mine.actor mine.behind)
-  is_sound = subst (λ gs. IsSound p (λ word. false) (record { state = M.state; workers = gs })) mine.is holds.sound
+  -- those before it in the world
+  abbrev pub front : List Actor
+  front = stranger_of holds.stranger ∷ mine.before
+
+  pub is_sound : IsSound p (λ word. false) (world_of M.state front mine.actor mine.behind)
+  is_sound = subst (λ gs. IsSound p (λ word. false) (record { state = M.state; workers = stranger_of holds.stranger ∷ gs })) mine.is holds.sound
 
   -- what each worker depends on has been
-  pub is_old : AllByRecursion (λ g. AreOld h g.needs) (mine.before ++ mine.actor ∷ mine.behind)
-  is_old = all_old p (λ word. false) M.state (writings (mine.before ++ mine.actor ∷ mine.behind)) h (mine.before ++ mine.actor ∷ mine.behind) is_sound.words
+  pub is_old : AllByRecursion (λ g. AreOld h g.needs) (front ++ mine.actor ∷ mine.behind)
+  is_old = all_old p (λ word. false) M.state (writings (front ++ mine.actor ∷ mine.behind)) h (front ++ mine.actor ∷ mine.behind) is_sound.words
       refl is_sound.workers
 
   pub old_left : AllByRecursion (λ g. AreOld h g.needs) mine.before
-  old_left = all_left (λ g. AreOld h g.needs) mine.before (mine.actor ∷ mine.behind) is_old
+  old_left = (all_left (λ g. AreOld h g.needs) front (mine.actor ∷ mine.behind) is_old).1
 
   pub old_right : AllByRecursion (λ g. AreOld h g.needs) mine.behind
-  old_right = (all_right (λ g. AreOld h g.needs) mine.before (mine.actor ∷ mine.behind) is_old).1
+  old_right = (all_right (λ g. AreOld h g.needs) front (mine.actor ∷ mine.behind) is_old).1
 
   -- the state, the progress, the linked rows and the structure's ghost are others then
   pub moved : (s : State) (q : Progress) (given : List ℕ) (ghost : G) (w : Worker Op) (g : Actor) →
       let N : Moment Op = record M { state = s; progress = q } in
-      w.name ≡ u.name → length s.words ≡ words_of l → length s.slots ≡ l.slots → IsSound p (λ word. false) (world_of s mine.before g mine.behind) →
+      w.name ≡ u.name → length s.words ≡ words_of l → length s.slots ≡ l.slots → IsSound p (λ word. false) (world_of s front g mine.behind) →
       TagsGo p M.state s mine.actor.at g.at →
       Moves c l p free (Some u.name) h (heap_of N given ghost) →
       AllStay c l p free (Some u.name) h (heap_of N given ghost) a mine.before → AllStay c l p free (Some u.name) h (heap_of N given ghost) b mine.behind →
@@ -61,6 +65,10 @@ module _ {G Op : Type 0} (c : Crew G Op) (l : Layout) (p : Place) (free : List �
         given = given;
         ghost = ghost;
         actors = mine.before ++ g ∷ mine.behind;
+        opening = holds.opening;
+        pool_is = holds.pool_is;
+        stranger = holds.stranger;
+        outside = holds.outside;
         accepted = holds.accepted;
         pool = holds.pool;
         words = words;
@@ -80,6 +88,7 @@ module _ {G Op : Type 0} (c : Crew G Op) (l : Layout) (p : Place) (free : List �
   still_moves = record {
     was = holds.kept;
     is = holds.kept;
+    opening = refl;
     later = keeps.same h (Some u.name);
     follows = follows_same (Some u.name) h h refl (λ x e i. refl);
     given = λ row k. k;
@@ -91,7 +100,7 @@ module _ {G Op : Type 0} (c : Crew G Op) (l : Layout) (p : Place) (free : List �
 
   pub moved_still : (s : State) (w : Worker Op) (g : Actor) →
       let N : Moment Op = record M { state = s } in
-      w.name ≡ u.name → length s.words ≡ words_of l → length s.slots ≡ l.slots → IsSound p (λ word. false) (world_of s mine.before g mine.behind) →
+      w.name ≡ u.name → length s.words ≡ words_of l → length s.slots ≡ l.slots → IsSound p (λ word. false) (world_of s front g mine.behind) →
       TagsGo p M.state s mine.actor.at g.at →
       h ≡ heap_of N holds.given holds.ghost →
       Acts c l p free h w g → Rows c.anatomy l free s.counter h (a ++ w ∷ b) → History c.anatomy l free h (a ++ w ∷ b) →

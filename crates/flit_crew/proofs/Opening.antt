@@ -1,5 +1,5 @@
 -- The first moment of a run over a lawful opening.
-use Rattle.std.proofs.Common.{◌≡◌, ⊎_elim, ℕ, zero, suc, ◌+◌, ◌*◌, ◌<◌, ◌≤◌, min, Bool, true, false, List, [], ◌∷◌, ◌++◌, length, map, replicate, slice_index, refl, sym, ◌∙◌, ap, subst, arith}
+use Rattle.std.proofs.Common.{◌≡◌, ⊎_elim, inl, ℕ, zero, suc, ◌+◌, ◌*◌, ◌<◌, ◌≤◌, min, Bool, true, false, List, [], ◌∷◌, ◌++◌, length, map, replicate, slice_index, refl, sym, ◌∙◌, ap, subst, arith}
 use Rattle.std.proofs.lemmas.Bool.{cases_lt}
 use Rattle.std.proofs.lemmas.List.{get_or_past}
 use Rattle.std.proofs.lemmas.Option.{none-some}
@@ -12,20 +12,24 @@ use Rattle.flit_words.specs.declared.layouts.Layout.{Layout}
 use Rattle.flit_words.specs.declared.layouts.Kind.{Kind}
 use Rattle.flit_words.specs.declared.layouts.Kind.TheVariants.{List as List_kind, Hash, Tree}
 use Rattle.flit_words.specs.Layouts.{words_of, first_row_of, last_row_of}
-use Rattle.flit_words.specs.Words.{is_tagged}
+use Rattle.flit_words.specs.Words.{is_tagged, version_of}
 use Rattle.flit_model.specs.Histories.{is_update}
 use Rattle.flit_model.specs.Images.{Shape, Chains, Grown, IsLawfulAs}
 use Rattle.flit_model.specs.Lists.{IsRisingFrom}
 use Rattle.flit_model.specs.States.{state_from}
 use Rattle.flit_model.specs.declared.calls.Entry.{Entry}
+use Rattle.flit_model.proofs.Elements.{all_weaker}
 use Rattle.flit_model.proofs.Membership.{contains_first, contains_later}
 use Rattle.flit_model.proofs.Shapes.{free_rows-contains}
 use Rattle.flit_place.specs.Tags.{Place, IsSlot}
+use Rattle.flit_pv.specs.Hands.{first_hand}
+use Rattle.flit_runs.specs.Soundness.{IsSound, IsStored}
 use Rattle.flit_runs.proofs.Opening as runs
 use Rattle.flit_structure.specs.Moments.{Opening, Moment, first_moment, made, numbers_of}
 use Rattle.flit_structure.specs.Lawful.{IsOpening, rows_needed}
 use Rattle.flit_crew.specs.Accounts.{IsPool, IsAny, HasNumber, inserts_in}
-use Rattle.flit_crew.specs.Crews.{Crew, Holds}
+use Rattle.flit_crew.specs.Crews.{Crew, Holds, Stranger, stranger_of, IsForeignWord}
+use Rattle.flit_crew.proofs.Outside.{words_among, foreign_within, outside_first}
 use Rattle.flit_crew.specs.Obligations.{OpensSo}
 
 -- ---- the words of a lawful image
@@ -103,26 +107,65 @@ module _ {G Op : Type 0} (c : Crew G Op) (l : Layout) (p : Place) (free : List �
   whole : length o.words ≡ words_of l
   whole = whole_of l o.words shape x.opening.recovers.lawful
 
+  -- whoever writes foreign rows has stored none
+  abbrev stranger : Stranger
+  stranger = record { hand = first_hand 0; needs = []; private = words_among l free o x.opening.free }
+
+  fresh : IsSound p (λ word. false) (record { state = state_from l o.words; workers = [] })
+  fresh = runs.opens p (λ word. false) (record { state = state_from l o.words; workers = [] }) (record {
+    suits = record {
+      whole = refl;
+      slots = λ word lt. subst (λ n. IsSlot p.counted n (p.slot word)) (sym (length_zeros l.slots)) (x.slots word (subst (λ n. word < n) whole lt));
+    };
+    persistent = refl;
+    untagged = bare_of_image l o.words shape x.opening.recovers.lawful;
+    lowered = zeros l.slots;
+    few = omega arith;
+    workers = tt;
+  })
+
+  sound_first : IsSound p (λ word. false) (record { state = state_from l o.words; workers = stranger_of stranger ∷ [] })
+  sound_first = record {
+    suits = fresh.suits;
+    words = fresh.words;
+    plain = tt;
+    covers = fresh.covers;
+    settled = λ word plain nobodys. fresh.settled word plain tt;
+    apart = (tt, tt);
+    few = omega arith;
+    workers = (
+      record {
+        needs = tt;
+        pairs = tt;
+        knows = tt;
+        seen = tt;
+        plain = all_weaker (IsForeignWord l free o) (λ w. (w < length o.words) × (false ≡ false))
+            (λ w f. (subst (λ n. w < n) (sym whole) (foreign_within l free o w f), refl)) stranger.private (outside_first l free o x.opening).foreign;
+        stored = all_weaker (IsForeignWord l free o) (IsStored (state_from l o.words) [] []) (λ w f. inl (same_le (version_of (slice_index o.words w))))
+            stranger.private (outside_first l free o x.opening).foreign;
+        apart = tt;
+      },
+      tt,
+    );
+  }
+    where
+      same_le : (n : ℕ) → n ≤ n
+      same_le n = omega arith
+
   pub opened : Holds c l p free M
   opened = record {
     given = [];
     ghost = x.ghost;
     actors = [];
+    opening = x.opening;
+    pool_is = x.pool;
+    stranger = stranger;
+    outside = outside_first l free o x.opening;
     accepted = x.accepted;
     pool = subst (IsPool l) (sym x.pool) (is_pool l o x.opening);
     words = whole;
     slots = length_zeros l.slots;
-    sound = runs.opens p (λ word. false) (record { state = state_from l o.words; workers = [] }) (record {
-      suits = record {
-        whole = refl;
-        slots = λ word lt. subst (λ n. IsSlot p.counted n (p.slot word)) (sym (length_zeros l.slots)) (x.slots word (subst (λ n. word < n) whole lt));
-      };
-      persistent = refl;
-      untagged = bare_of_image l o.words shape x.opening.recovers.lawful;
-      lowered = zeros l.slots;
-      few = omega arith;
-      workers = tt;
-    });
+    sound = sound_first;
     tagged = λ counted w tag. absurd (clash (is_tagged (slice_index o.words w)) tag (bare_of_image l o.words shape x.opening.recovers.lawful w));
     kept = x.kept;
     acts = tt;

@@ -27,18 +27,19 @@ use Rattle.flit_structure.specs.Meanings.{first_at}
 use Rattle.flit_model.specs.declared.calls.Entry.{Entry}
 use Rattle.flit_structure.proofs.Names.{all_both}
 use Rattle.flit_crew.specs.Machines.{Machine, Works, Takes, MakesAt, deed_of, has_linked, working_in, hand_in, hand_of, machine_takes, reads_for, part_of, Part, ToRead, HasRead, load_part}
-use Rattle.flit_crew.specs.Heaps.{Heap, heap_of, waits_at, IsOpen, IsShut, IsMine, AreOld}
+use Rattle.flit_crew.specs.Heaps.{Heap, heap_of, waits_at, IsOpen, IsHidden, IsMine, AreOld}
 use Rattle.flit_crew.specs.Anatomies.{deed, gone_on, op_taken}
 use Rattle.flit_crew.specs.Accounts.{HasUpdate, Rows, IsSteady}
-use Rattle.flit_crew.specs.Crews.{Crew, Who, Holds, IsFurther, Facts}
+use Rattle.flit_crew.specs.Crews.{Crew, Who, Holds, IsFurther, Facts, stranger_of}
 use Rattle.flit_crew.specs.Obligations.{Keeps, IsAfter}
-use Rattle.flit_crew.proofs.Acting.{Split, shut_of}
+use Rattle.flit_crew.proofs.Outside.{outside_hidden}
+use Rattle.flit_crew.proofs.Acting.{Split, hidden_of}
 use Rattle.flit_crew.proofs.Moving.{is_old}
 use Rattle.flit_crew.proofs.Accounting.{rows_steady, history_steady}
 use Rattle.flit_crew.proofs.Standing.{deed_same, steady_with}
 use Rattle.flit_crew.proofs.Arriving.{away}
 use Rattle.flit_crew.proofs.WritingBack.{word_bare}
-use Rattle.flit_crew.proofs.Going.{r, heap, me_now, Gone, turned, tags_now, alone_now, knows_now, update_now, since, all_shut}
+use Rattle.flit_crew.proofs.Going.{r, heap, me_now, Gone, turned, tags_now, alone_now, knows_now, update_now, since, all_hidden}
 use Rattle.flit_crew.proofs.GoingTo.{went}
 use Rattle.flit_crew.proofs.Stepping.{IsOn, load_first, load_behind}
 
@@ -55,6 +56,10 @@ module _ {G Op : Type 0} (c : Crew G Op) (l : Layout) (p : Place) (free : List �
     (holds : Holds c l p free (with_workers M (a ++ busy name number op call begun ∷ b))) (k : ℕ) (settled : k ≤ length M.progress.settled) where
   abbrev mine : Split c l p free (heap c l p free keeps M a name number op call begun b holds k settled) a (busy name number op call begun) b holds.actors
   mine = r c l p free keeps M a name number op call begun b holds k settled
+
+  -- those before it in the world
+  abbrev front : List Actor
+  front = stranger_of holds.stranger ∷ mine.before
 
   abbrev here : Heap G
   here = heap c l p free keeps M a name number op call begun b holds k settled
@@ -102,7 +107,7 @@ module _ {G Op : Type 0} (c : Crew G Op) (l : Layout) (p : Place) (free : List �
 
     -- an event that leaves the heap as it was
     pub quietly : (e : Event) (news : List Seen) → run.asks p w ≡ Some e →
-        AllByRecursion (Sees (λ x. false) M.state (mine.before ++ mine.actor ∷ mine.behind) w) news →
+        AllByRecursion (Sees (λ x. false) M.state (front ++ mine.actor ∷ mine.behind) w) news →
         length (after M.state e).words ≡ words_of l → length (after M.state e).slots ≡ l.slots →
         (let N : Moment Op = record M { state = after M.state e } in here ≡ heap_of N holds.given holds.ghost) →
         IsOn (hand_of w) (hand_of (run.takes p w (answer M.state e))) → AllByRecursion (IsOpen l free here) (goes_for (run.takes p w (answer M.state e))) →
@@ -121,7 +126,7 @@ module _ {G Op : Type 0} (c : Crew G Op) (l : Layout) (p : Place) (free : List �
           slots = slots;
           same = same;
           sound = turned c l p free keeps M a name number op call begun b holds k settled e news (ap (run.asks p) at_it ∙ asked)
-              (subst (λ x. AllByRecursion (Sees (λ y. false) M.state (mine.before ++ mine.actor ∷ mine.behind) x) news) (sym at_it) sees);
+              (subst (λ x. AllByRecursion (Sees (λ y. false) M.state (front ++ mine.actor ∷ mine.behind) x) news) (sym at_it) sees);
           at = after_at;
           name_same = ap (λ x. (hand_of x).name) after_at ∙ hand.name ∙ ap (λ x. (hand_of x).name) (sym at_it) ∙ mine.mine.name;
           number_same = ap (λ x. (hand_of x).number) after_at ∙ hand.number ∙ ap (λ x. (hand_of x).number) (sym at_it) ∙ mine.mine.number;
@@ -131,7 +136,7 @@ module _ {G Op : Type 0} (c : Crew G Op) (l : Layout) (p : Place) (free : List �
           facts = facts;
           tags = tags_now c l p free keeps M a name number op call begun b holds k settled e (ap (run.asks p) at_it ∙ asked);
           alone = alone_now c l p free keeps M a name number op call begun b holds k settled e news (ap (run.asks p) at_it ∙ asked)
-              (subst (λ x. AllByRecursion (Sees (λ y. false) M.state (mine.before ++ mine.actor ∷ mine.behind) x) news) (sym at_it) sees);
+              (subst (λ x. AllByRecursion (Sees (λ y. false) M.state (front ++ mine.actor ∷ mine.behind) x) news) (sym at_it) sees);
           update = deeds.update;
           rows = subst (λ n. Rows c.anatomy l free n here (a ++ next ∷ b)) (sym counter)
               (rows_steady c.anatomy l free M.state.counter here a (busy name number op call begun) next b steady holds.rows);
@@ -160,15 +165,16 @@ module _ {G Op : Type 0} (c : Crew G Op) (l : Layout) (p : Place) (free : List �
 
   -- what it depends on has been
   pub old_now : AreOld here mine.actor.needs
-  old_now = (Rattle.flit_structure.proofs.Names.all_right (λ g. AreOld here g.needs) mine.before (mine.actor ∷ mine.behind)
+  old_now = (Rattle.flit_structure.proofs.Names.all_right (λ g. AreOld here g.needs) front (mine.actor ∷ mine.behind)
       (is_old c l p free keeps M a (busy name number op call begun) b holds)).0
 
   -- a word that everybody may reach is nobody's
-  nobodys : (w : ℕ) → IsOpen l free here w → IsNobodys (mine.before ++ mine.actor ∷ mine.behind) w
-  nobodys w o = all_weaker (λ g. AllByRecursion (IsShut l free here) g.private) (λ g. IsAway g.private w) (λ g shut. away c l p free here w o g.private shut)
-      (mine.before ++ mine.actor ∷ mine.behind)
-      (all_both (λ g. AllByRecursion (IsShut l free here) g.private) mine.before (mine.actor ∷ mine.behind) (all_shut c l p free here a mine.before mine.left)
-      (shut_of c l p free here (busy name number op call begun) mine.actor mine.mine, all_shut c l p free here b mine.behind mine.right))
+  nobodys : (w : ℕ) → IsOpen l free here w → IsNobodys (front ++ mine.actor ∷ mine.behind) w
+  nobodys w o = all_weaker (λ g. AllByRecursion (IsHidden l free here) g.private) (λ g. IsAway g.private w) (λ g shut. away c l p free here w o g.private shut)
+      (front ++ mine.actor ∷ mine.behind)
+      (all_both (λ g. AllByRecursion (IsHidden l free here) g.private) front (mine.actor ∷ mine.behind)
+      (outside_hidden l free here holds.opening holds.stranger holds.outside, all_hidden c l p free here a mine.before mine.left)
+      (hidden_of c l p free here (busy name number op call begun) mine.actor mine.mine, all_hidden c l p free here b mine.behind mine.right))
 
   -- ---- a VLoad
 
@@ -184,7 +190,7 @@ module _ {G Op : Type 0} (c : Crew G Op) (l : Layout) (p : Place) (free : List �
       let e : Event = Load word in
       let taken : run.takes p (VLoads m) raw ≡ VLoads (record m { at = V_has raw }) = ap (λ x. VLoads (Rattle.flit_pv.specs.VLoads.v_load_takes x m raw)) at in
       quietly (VLoads m) is e (news ∷ []) (ap (λ x. v_load_asks x m) at) (
-        subst (λ x. Rattle.flit_runs.specs.Worlds.VLoadSees (λ y. false) M.state (mine.before ++ mine.actor ∷ mine.behind) x word news) (sym at)
+        subst (λ x. Rattle.flit_runs.specs.Worlds.VLoadSees (λ y. false) M.state (front ++ mine.actor ∷ mine.behind) x word news) (sym at)
             (record { within = subst (λ n. word < n) (sym holds.words) o.within; plain = refl; reached = nobodys word o }, refl, refl),
         tt,
       )

@@ -21,7 +21,7 @@ use Rattle.flit_structure.proofs.Growing.{get_put, get_gone}
 use Rattle.flit_structure.proofs.Names.{others_new}
 use Rattle.flit_structure.proofs.Taken.{taken_wait, WaitsPicked}
 use Rattle.flit_crew.specs.Machines.{Deed, Fresh, Making, Made, MakesAt}
-use Rattle.flit_crew.specs.Heaps.{Heap, at_shadow, waits_at, IsOpen, IsAhead}
+use Rattle.flit_crew.specs.Heaps.{Heap, at_shadow, waits_at, IsOpen, IsAhead, IsForeign, IsWordOf}
 use Rattle.flit_crew.specs.Anatomies.{Anatomy, deed}
 use Rattle.flit_crew.specs.Accounts.{IsAny, IsUnmade, HasNumber, IsMaker, Makes, History}
 use Rattle.flit_crew.proofs.Numbering.{IsOther, Between, numbers_skip, numbers_take, numbers-append, won_rises, settled_same}
@@ -125,9 +125,9 @@ module _ {Op : Type 0} (A : Anatomy Op) where
             clash x (one_maker x w d e us different same (r.waits x d j).2 (r.waits w e is).2) s
 
     pub history_settled : (h k : Heap G) (w : ℕ) (us : List (Worker Op)) → HaveDifferentNames us → Follows None h k →
-        k.progress ≡ settles h.progress w (waits_at h w) → k.words ≡ h.words → k.given ≡ h.given →
+        k.progress ≡ settles h.progress w (waits_at h w) → k.words ≡ h.words → k.given ≡ h.given → k.opening ≡ h.opening →
         ((x : ℕ) → x ≢ w → at_shadow k x ≡ at_shadow h x) → History A l free h us → History A l free k us
-    history_settled h k w us different f same words given shadows r = record {
+    history_settled h k w us different f same words given opening shadows r = record {
       updates = from_old (λ e. is_update e ≡ true) r.updates;
       rises = λ name. subst (IsRisingFrom 0) (sym (numbers name)) (r.rises name);
       numbered = from_old (λ e. IsAny (HasNumber A e) us) r.numbered;
@@ -135,6 +135,7 @@ module _ {Op : Type 0} (A : Anatomy Op) where
         record {
           within = z.0.within;
           given = λ row pool word. subst (λ rows. Rattle.std.specs.Prelude.Contains rows row) (sym given) (z.0.given row pool word);
+          ours = subst (λ o. (row : ℕ) → IsForeign l free o row → IsWordOf l row x → ⊥) (sym opening) z.0.ours;
         },
         ahead x i.0 z.1,
         z.2,

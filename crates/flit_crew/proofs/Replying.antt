@@ -34,7 +34,7 @@ use Rattle.flit_crew.specs.Heaps.{Heap}
 use Rattle.flit_crew.specs.Rows.{own_many}
 use Rattle.flit_crew.specs.Anatomies.{own, own_in, hand_at}
 use Rattle.flit_crew.specs.Accounts.{IsAny, HasNumber, History, HasUpdate, IsTight, inserts_in}
-use Rattle.flit_crew.specs.Crews.{Crew, AllAct, Acts, Holds, Facts, IsDoing, IsLimited, MayReply, deed_if, who_of}
+use Rattle.flit_crew.specs.Crews.{Crew, AllAct, Acts, Holds, Facts, IsDoing, IsLimited, MayReply, deed_if, who_of, stranger_of}
 use Rattle.flit_crew.specs.Obligations.{Keeps}
 use Rattle.flit_crew.proofs.Acting.{Split}
 use Rattle.flit_crew.proofs.Moving.{is_sound}
@@ -68,6 +68,10 @@ module _ {G Op : Type 0} (c : Crew G Op) (l : Layout) (p : Place) (free : List �
   abbrev mine : Split c l p free here a (busy name number op call begun) b holds.actors
   mine = q c l p free keeps M a b name number op call begun holds none
 
+  -- those before it in the world
+  abbrev front : List Actor
+  front = stranger_of holds.stranger ∷ mine.before
+
   abbrev over : (m : HeldComplete) × (c.anatomy.machine op ≡ Works (Completes m)) × (m.fence.hand.queue ≡ [])
   over = is_complete_now c l p free keeps M a b name number op call begun holds none
 
@@ -81,8 +85,8 @@ module _ {G Op : Type 0} (c : Crew G Op) (l : Layout) (p : Place) (free : List �
   -- all that it depends on is persistent
   durable : IsDurable M.state mine.actor.needs
   durable =
-      let rules : KeepsRule p M.state mine.actor = all_middle (KeepsRule p M.state) mine.before mine.actor mine.behind
-      (rule p (λ x. false) (world_of M.state mine.before mine.actor mine.behind) (is_sound c l p free keeps M a (busy name number op call begun) b holds)) in
+      let rules : KeepsRule p M.state mine.actor = all_middle (KeepsRule p M.state) front mine.actor mine.behind
+      (rule p (λ x. false) (world_of M.state front mine.actor mine.behind) (is_sound c l p free keeps M a (busy name number op call begun) b holds)) in
       rules (subst (MustBeDurable p) (sym (mine.mine.at ∙ ap working_in over.1)) (ap first_persist over.2))
 
   update : HasUpdate here name number call (first_at 0 begun) (deed_if c l p free (is_update_by call (c.anatomy.reply op)))

@@ -21,6 +21,7 @@ use Rattle.flit_pv.specs.Queues.{is_full, first_persist, persist_of}
 use Rattle.flit_pv.specs.Hands.{with_persist, fenced_one}
 use Rattle.flit_pv.specs.Drafts.{draft_read, is_worn}
 use Rattle.flit_pv.specs.Stores.{HeldStore, store_asks, store_takes, store_room, store_decides, store_goes_on, worn_at}
+use Rattle.flit_runs.specs.Worlds.{Actor}
 use Rattle.flit_runs.specs.Workings as run
 use Rattle.flit_runs.specs.Workings.{Stores}
 use Rattle.flit_runs.specs.Worlds as world
@@ -34,7 +35,7 @@ use Rattle.flit_crew.specs.Machines.{Works, deed_of, machine_takes, part_of}
 use Rattle.flit_crew.specs.Anatomies.{op_taken}
 use Rattle.flit_crew.specs.Heaps.{Heap}
 use Rattle.flit_crew.specs.Fillings.{Filling, FillsAt, AreLoading, AreStoring}
-use Rattle.flit_crew.specs.Crews.{Crew, Holds, Facts, Fills}
+use Rattle.flit_crew.specs.Crews.{Crew, Holds, Facts, Fills, stranger_of}
 use Rattle.flit_crew.specs.Obligations.{Keeps}
 use Rattle.flit_crew.proofs.Acting.{Split}
 use Rattle.flit_crew.proofs.Filling.{fills_read, fills_room, store_limit}
@@ -84,6 +85,10 @@ module _ {G Op : Type 0} (c : Crew G Op) (l : Layout) (p : Place) (free : List �
   abbrev mine : Split c l p free (heap c l p free keeps M a name number op call begun b holds K (same_le K)) a (busy name number op call begun) b holds.actors
   mine = r c l p free keeps M a name number op call begun b holds K (same_le K)
 
+  -- those before it in the world
+  abbrev front : List Actor
+  front = stranger_of holds.stranger ∷ mine.before
+
   abbrev here : Heap G
   here = heap c l p free keeps M a name number op call begun b holds K (same_le K)
 
@@ -97,9 +102,9 @@ module _ {G Op : Type 0} (c : Crew G Op) (l : Layout) (p : Place) (free : List �
 
   drafted : (how : Stored) → m.at ≡ Store_reads how → MayBeDrafted M.state mine.actor.private m.drafts
   drafted how at = (subst (λ x. StoreKnows M.state mine.actor.private x m) at
-      (subst (Knows p (λ x. false) M.state (around (world.writings mine.before) (run.writing_at mine.actor.at) (world.writings mine.behind)) mine.actor.private)
+      (subst (Knows p (λ x. false) M.state (around (world.writings front) (run.writing_at mine.actor.at) (world.writings mine.behind)) mine.actor.private)
       (at_it c l p free keeps M a name number op call begun b holds K (same_le K) (Stores m) is)
-      (safe p (λ x. false) M.state mine.before mine.actor mine.behind
+      (safe p (λ x. false) M.state front mine.actor mine.behind
       (sound_now c l p free keeps M a name number op call begun b holds K (same_le K))).knows)).0
 
   values_small : (v : ℕ) (vs : List ℕ) → m.drafts.values ≡ v ∷ vs → AllByRecursion (λ x. x < 2 ^ 32) m.drafts.values → v < 2 ^ 32

@@ -37,7 +37,7 @@ use Rattle.flit_crew.specs.Heaps.{Heap, heap_of, at_word, at_shadow, waits_at, s
 use Rattle.flit_crew.specs.Anatomies.{own, own_in, deed, deed_by, op_taken, gone_on}
 use Rattle.flit_crew.specs.Accounts.{HasUpdate, Rows, History, IsSteady}
 use Rattle.flit_crew.specs.Fillings.{AreStoring, FillsAt}
-use Rattle.flit_crew.specs.Crews.{Crew, Holds, Facts, Fills}
+use Rattle.flit_crew.specs.Crews.{Crew, Holds, Facts, Fills, stranger_of}
 use Rattle.flit_crew.specs.Obligations.{Keeps, IsAfter}
 use Rattle.flit_crew.proofs.Acting.{Split, Moves, AllStay}
 use Rattle.flit_crew.proofs.Moving.{old_left, old_right}
@@ -71,6 +71,10 @@ module _ {G Op : Type 0} (c : Crew G Op) (l : Layout) (p : Place) (free : List �
   abbrev mine : Split c l p free (heap c l p free keeps M a name number op call begun b holds K (same_le K)) a (busy name number op call begun) b holds.actors
   mine = r c l p free keeps M a name number op call begun b holds K (same_le K)
 
+  -- those before it in the world
+  abbrev front : List Actor
+  front = stranger_of holds.stranger ∷ mine.before
+
   abbrev here : Heap G
   here = heap c l p free keeps M a name number op call begun b holds K (same_le K)
 
@@ -82,9 +86,9 @@ module _ {G Op : Type 0} (c : Crew G Op) (l : Layout) (p : Place) (free : List �
 
   store_knows : StoreKnows M.state mine.actor.private (Writes n) m
   store_knows = subst (λ x. StoreKnows M.state mine.actor.private x m) at
-      (subst (Knows p (λ x. false) M.state (around (world.writings mine.before) (run.writing_at mine.actor.at) (world.writings mine.behind)) mine.actor.private)
+      (subst (Knows p (λ x. false) M.state (around (world.writings front) (run.writing_at mine.actor.at) (world.writings mine.behind)) mine.actor.private)
       at_store
-      (safe p (λ x. false) M.state mine.before mine.actor mine.behind (sound_now c l p free keeps M a name number op call begun b holds K (same_le K))).knows)
+      (safe p (λ x. false) M.state front mine.actor mine.behind (sound_now c l p free keeps M a name number op call begun b holds K (same_le K))).knows)
 
   among : Contains mine.actor.private n.word
   among = store_knows.each.0.mine
@@ -115,7 +119,7 @@ module _ {G Op : Type 0} (c : Crew G Op) (l : Layout) (p : Place) (free : List �
 
   below_words : n.word < length here.words
   below_words = subst (λ x. n.word < x) (sym (length-map M.state.words bare_of))
-      (all_among (IsPWord (λ x. false) M.state) mine.actor.private n.word (safe p (λ x. false) M.state mine.before mine.actor mine.behind
+      (all_among (IsPWord (λ x. false) M.state) mine.actor.private n.word (safe p (λ x. false) M.state front mine.actor mine.behind
       (sound_now c l p free keeps M a name number op call begun b holds K (same_le K))).plain among).0
 
   other_word : (w : ℕ) → w ≢ n.word → at_word after_store w ≡ at_word here w
@@ -263,6 +267,7 @@ module _ {G Op : Type 0} (c : Crew G Op) (l : Layout) (p : Place) (free : List �
       let moves : Moves c l p free (Some name) here after_store = record {
         was = holds.kept;
         is = blind.0;
+        opening = refl;
         later = blind.1;
         follows =
             follows_same (Some name) here after_store refl (λ w x q. other_word w (waits_other w x q));
@@ -281,7 +286,7 @@ module _ {G Op : Type 0} (c : Crew G Op) (l : Layout) (p : Place) (free : List �
       rows_same c.anatomy l free M.state.counter here after_store (a ++ next ∷ b) refl refl
       (rows_steady c.anatomy l free M.state.counter here a (busy name number op call begun) next b steady holds.rows) in
       let history : History c.anatomy l free after_store (a ++ next ∷ b) =
-      history_words c.anatomy l free here after_store (a ++ next ∷ b) refl (λ w o. record { within = o.within; given = o.given })
+      history_words c.anatomy l free here after_store (a ++ next ∷ b) refl (λ w o. record { within = o.within; given = o.given; ours = o.ours })
       (λ w x q. ap version_of (other_word w (waits_other w x q)) ∙ (holds.history.waits w x q).1)
       (history_steady c.anatomy l free here a (busy name number op call begun) next b refl (same_le number) steady.makes holds.history) in
       subst (λ x. Holds c l p free (record M {

@@ -43,8 +43,9 @@ use Rattle.flit_crew.specs.Machines.{Works, Fresh, Making, MakesAt, deed_of, has
 use Rattle.flit_crew.specs.Heaps.{Heap, heap_of, IsOpen, IsWordOf, IsAhead, AreResting, at_word, at_shadow, waits_at, won}
 use Rattle.flit_crew.specs.Anatomies.{own, own_in, hand_at, rows_but, deed, deed_by, gone_on, op_taken}
 use Rattle.flit_crew.specs.Accounts.{HasUpdate, IsUnmade, Rows, History, IsSteady, IsTight, AreTight, inserts_in}
-use Rattle.flit_crew.specs.Crews.{Crew, Who, Acts, Holds, IsFurther, Facts, who_of, effect_if, effect_of, links_of}
+use Rattle.flit_crew.specs.Crews.{Crew, Who, Acts, Holds, IsFurther, Facts, who_of, effect_if, effect_of, links_of, stranger_of}
 use Rattle.flit_crew.specs.Obligations.{Keeps, WonSo, IsAfter}
+use Rattle.flit_crew.proofs.Outside.{outside_away}
 use Rattle.flit_crew.proofs.Acting.{Split, Moves, AllStay}
 use Rattle.flit_crew.proofs.Tagging.{TagsGo}
 use Rattle.flit_crew.proofs.Moving.{moved, old_left, old_right}
@@ -71,6 +72,10 @@ module _ {G Op : Type 0} (c : Crew G Op) (l : Layout) (p : Place) (free : List �
   abbrev mine : Split c l p free (heap c l p free keeps M a name number op call begun b holds k settled) a (busy name number op call begun) b holds.actors
   mine = r c l p free keeps M a name number op call begun b holds k settled
 
+  -- those before it in the world
+  abbrev front : List Actor
+  front = stranger_of holds.stranger ∷ mine.before
+
   abbrev here : Heap G
   here = heap c l p free keeps M a name number op call begun b holds k settled
 
@@ -84,19 +89,19 @@ module _ {G Op : Type 0} (c : Crew G Op) (l : Layout) (p : Place) (free : List �
   abbrev pub open_actor : Actor
   open_actor = record mine.actor { private = [] }
 
-  pub opened : is_exchange (exchange_asked p m) ≡ true → IsSound p (λ x. false) (world_of M.state mine.before open_actor mine.behind)
+  pub opened : is_exchange (exchange_asked p m) ≡ true → IsSound p (λ x. false) (world_of M.state front open_actor mine.behind)
   opened e =
       let sound = sound_now c l p free keeps M a name number op call begun b holds k settled in
-      let words : KeepsWords p M.state mine.actor = all_middle (KeepsWords p M.state) mine.before mine.actor mine.behind
-      (words_rule p (λ x. false) (world_of M.state mine.before mine.actor mine.behind) sound) in
-      sound-turn p (λ x. false) (world_of M.state mine.before mine.actor mine.behind) (world_of M.state mine.before open_actor mine.behind)
-      (publishes M.state mine.before mine.actor mine.behind (subst IsNotStoring (sym at_exchange) tt) (words (subst (MustBeDurable p) (sym at_exchange) e)))
+      let words : KeepsWords p M.state mine.actor = all_middle (KeepsWords p M.state) front mine.actor mine.behind
+      (words_rule p (λ x. false) (world_of M.state front mine.actor mine.behind) sound) in
+      sound-turn p (λ x. false) (world_of M.state front mine.actor mine.behind) (world_of M.state front open_actor mine.behind)
+      (publishes M.state front mine.actor mine.behind (subst IsNotStoring (sym at_exchange) tt) (words (subst (MustBeDurable p) (sym at_exchange) e)))
       sound
 
   durable : is_exchange (exchange_asked p m) ≡ true → IsDurable M.state mine.actor.needs
   durable e =
-      let rules : KeepsRule p M.state mine.actor = all_middle (KeepsRule p M.state) mine.before mine.actor mine.behind
-      (rule p (λ x. false) (world_of M.state mine.before mine.actor mine.behind)
+      let rules : KeepsRule p M.state mine.actor = all_middle (KeepsRule p M.state) front mine.actor mine.behind
+      (rule p (λ x. false) (world_of M.state front mine.actor mine.behind)
       (sound_now c l p free keeps M a name number op call begun b holds k settled)) in
       rules (subst (MustBeDurable p) (sym at_exchange) e)
 
@@ -202,14 +207,17 @@ module _ {G Op : Type 0} (c : Crew G Op) (l : Layout) (p : Place) (free : List �
       unlinked = λ row k. (own_row_is row (links_own row k)).unlinked;
       words = λ row w k of.
           let o = own_row_is row (links_own row k) in
-          let away = own_away c l p free here holds.pool a b mine.before mine.behind mine.left mine.right row w o of in
-          (rests_now p M.state (mine.before ++ open_actor ∷ mine.behind) here w refl (opened changes_word)
-          (all_with (λ g. IsAway g.private w) mine.before open_actor mine.behind tt
-          (all_weaker (λ g. IsAway g.private w × IsAway (goes_for g.at) w) (λ g. IsAway g.private w) (λ g q. q.0) (mine.before ++ mine.behind) away))
-          (all_with (λ g. IsAway (goes_for g.at) w) mine.before open_actor mine.behind
+          let away : AllByRecursion (λ g. IsAway g.private w × IsAway (goes_for g.at) w) (front ++ mine.behind) = (
+            (outside_away l free here holds.pool holds.opening holds.stranger holds.outside row w o.pool of, tt),
+            own_away c l p free here holds.pool a b mine.before mine.behind mine.left mine.right row w o of,
+          ) in
+          (rests_now p M.state (front ++ open_actor ∷ mine.behind) here w refl (opened changes_word)
+          (all_with (λ g. IsAway g.private w) front open_actor mine.behind tt
+          (all_weaker (λ g. IsAway g.private w × IsAway (goes_for g.at) w) (λ g. IsAway g.private w) (λ g q. q.0) (front ++ mine.behind) away))
+          (all_with (λ g. IsAway (goes_for g.at) w) front open_actor mine.behind
           (all_weaker (IsOpen l free here) (λ y. y ≢ w) (λ y q e. o.unlinked (q.given row o.pool (subst (λ z. IsWordOf l row z) (sym e) of)))
           (goes_for mine.actor.at) mine.mine.reached)
-          (all_weaker (λ g. IsAway g.private w × IsAway (goes_for g.at) w) (λ g. IsAway (goes_for g.at) w) (λ g q. q.1) (mine.before ++ mine.behind) away))).1;
+          (all_weaker (λ g. IsAway g.private w × IsAway (goes_for g.at) w) (λ g. IsAway (goes_for g.at) w) (λ g q. q.1) (front ++ mine.behind) away))).1;
     }
 
     taken : run.takes p mine.actor.at told ≡ Exchanges (exchange_at m WritesBack)
@@ -272,9 +280,9 @@ module _ {G Op : Type 0} (c : Crew G Op) (l : Layout) (p : Place) (free : List �
     asked_now : run.asks p mine.actor.at ≡ Some e
     asked_now = ap (run.asks p) at_exchange ∙ x.asks
 
-    sound : IsSound p (λ y. false) (world_of (after M.state e) mine.before won_actor mine.behind)
-    sound = sound-turn p (λ y. false) (world_of M.state mine.before open_actor mine.behind) (world_of (after M.state e) mine.before won_actor mine.behind)
-        (event M.state mine.before open_actor mine.behind e [] (ap (run.asks p) at_exchange ∙ x.asks) tt) (opened changes_word)
+    sound : IsSound p (λ y. false) (world_of (after M.state e) front won_actor mine.behind)
+    sound = sound-turn p (λ y. false) (world_of M.state front open_actor mine.behind) (world_of (after M.state e) front won_actor mine.behind)
+        (event M.state front open_actor mine.behind e [] (ap (run.asks p) at_exchange ∙ x.asks) tt) (opened changes_word)
 
     given_more : (row : ℕ) → Contains here.given row → Contains (links_of c.anatomy op ++ holds.given) row
     given_more row h = Contains-append_right (links_of c.anatomy op) holds.given row h
@@ -308,6 +316,7 @@ module _ {G Op : Type 0} (c : Crew G Op) (l : Layout) (p : Place) (free : List �
     moves = record {
       was = holds.kept;
       is = wins.1.kept;
+      opening = refl;
       later = wins.1.later;
       follows = follows;
       given = given_more;
@@ -390,7 +399,7 @@ module _ {G Op : Type 0} (c : Crew G Op) (l : Layout) (p : Place) (free : List �
         × Rows c.anatomy l free M.state.counter after_heap (a ++ next_worker ∷ b) × History c.anatomy l free after_heap (a ++ next_worker ∷ b)
 
     opened_still : (w : ℕ) → IsOpen l free here w → IsOpen l free after_heap w
-    opened_still w o = record { within = o.within; given = λ row pool word. given_more row (o.given row pool word) }
+    opened_still w o = record { within = o.within; given = λ row pool word. given_more row (o.given row pool word); ours = o.ours }
 
     ahead_still : (w : ℕ) (e : Entry) → waits_at here w ≡ Some e → IsAhead after_heap w
     ahead_still w e q = ap version_of (other_word w (λ same. some_none e (sym q ∙ ap (λ y. waits_at here y) same ∙ none_waits))) ∙ (holds.history.waits w e q).1
@@ -517,7 +526,7 @@ module _ {G Op : Type 0} (c : Crew G Op) (l : Layout) (p : Place) (free : List �
           least = mine.mine.least;
           most = mine.mine.most;
           reached = subst (λ y. AllByRecursion (IsOpen l free after_heap) (goes_for y)) (sym taken)
-              (record { within = x.reached.within; given = λ row pool word. given_more row (x.reached.given row pool word) }, tt);
+              (record { within = x.reached.within; given = λ row pool word. given_more row (x.reached.given row pool word); ours = x.reached.ours }, tt);
           reading = subst (λ y. AllByRecursion (IsOpen l free after_heap) (reads_for y)) (sym taken) tt;
           mine = tt;
           published = λ q t. refl;
@@ -547,7 +556,7 @@ module _ {G Op : Type 0} (c : Crew G Op) (l : Layout) (p : Place) (free : List �
         (subst (λ o. Holds c l p free (record N { workers = a ++ busy name number o call now ∷ b })) (sym op_is)
         (moved c l p free keeps M a (busy name number op call begun) b holds N.state N.progress (links_of c.anatomy op ++ holds.given) wins.0 w won_actor refl
         (length-set M.state.words m.word (dressed p.counted m.to) ∙ holds.words) holds.slots
-        (subst (λ s. IsSound p (λ y. false) (world_of s mine.before won_actor mine.behind)) state_is sound)
+        (subst (λ s. IsSound p (λ y. false) (world_of s front won_actor mine.behind)) state_is sound)
         (subst (λ s. TagsGo p M.state s mine.actor.at won_actor.at) state_is
         (tags_now c l p free keeps M a name number op call begun b holds k settled e asked_now))
         (subst (λ h. Moves c l p free (Some name) here h) heap_is moves)

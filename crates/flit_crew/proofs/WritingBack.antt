@@ -30,11 +30,12 @@ use Rattle.flit_structure.proofs.WriteBacks.{old_state, old_progress}
 use Rattle.flit_runs.proofs.Reading.{had-now}
 use Rattle.flit_place.proofs.WordTags.{version-bare, version-max_left}
 use Rattle.flit_model.proofs.Elements.{all_weaker}
-use Rattle.flit_crew.specs.Heaps.{Heap, heap_of, written, IsOpen, IsWordOf, IsShut, IsMine, IsAhead, AreOld, AreAlike}
+use Rattle.flit_crew.specs.Heaps.{Heap, heap_of, written, IsOpen, IsHidden, IsMine, IsAhead, AreOld, AreAlike}
 use Rattle.flit_crew.specs.Anatomies.{own_in}
-use Rattle.flit_crew.specs.Crews.{Crew, AllAct, Holds}
+use Rattle.flit_crew.specs.Crews.{Crew, AllAct, Holds, stranger_of}
 use Rattle.flit_crew.specs.Obligations.{Keeps}
-use Rattle.flit_crew.proofs.Acting.{Moves, AllStay, all_last, shut_of}
+use Rattle.flit_crew.proofs.Acting.{Moves, AllStay, all_last, hidden_of}
+use Rattle.flit_crew.proofs.Outside.{outside_hidden}
 use Rattle.flit_crew.proofs.Updating.{Follows, follows_settled}
 use Rattle.flit_crew.proofs.Accounting.{rows_same, inserts_settled}
 use Rattle.flit_crew.proofs.Recording.{history_settled}
@@ -60,9 +61,12 @@ module _ {G Op : Type 0} (c : Crew G Op) (l : Layout) (p : Place) (free : List �
   abbrev t : State
   t = after M.state (Persist word kept)
 
-  sound : IsSound p (λ w. false) (record { state = t; workers = holds.actors })
-  sound = sound-turn p (λ w. false) (record { state = M.state; workers = holds.actors }) (record { state = t; workers = holds.actors })
-      (writes_back M.state holds.actors word kept (subst (λ n. word < n) (sym holds.words) below) (had-now (λ w. false) M.state word)) holds.sound
+  abbrev everybody : List Actor
+  everybody = stranger_of holds.stranger ∷ holds.actors
+
+  sound : IsSound p (λ w. false) (record { state = t; workers = everybody })
+  sound = sound-turn p (λ w. false) (record { state = M.state; workers = everybody }) (record { state = t; workers = everybody })
+      (writes_back M.state everybody word kept (subst (λ n. word < n) (sym holds.words) below) (had-now (λ w. false) M.state word)) holds.sound
 
   -- a word that rises is ahead
   next : shadow_at M.state word < kept → version_of (word_at M.state word) ≡ version_of (shadow_at M.state word) + 1
@@ -130,11 +134,15 @@ module _ {G Op : Type 0} (c : Crew G Op) (l : Layout) (p : Place) (free : List �
       let k : Heap G = heap_of N holds.given ghost in
       let follows : Follows None h k = follows_settled h k word refl refl in
       let moves : Moves c l p free None h k =
-      record { was = holds.kept; is = is; later = later; follows = follows; given = λ row q. q; risen = risen_shadows } in
+      record { was = holds.kept; is = is; opening = refl; later = later; follows = follows; given = λ row q. q; risen = risen_shadows } in
       record {
         given = holds.given;
         ghost = ghost;
         actors = holds.actors;
+        opening = holds.opening;
+        pool_is = holds.pool_is;
+        stranger = holds.stranger;
+        outside = holds.outside;
         accepted = holds.accepted;
         pool = holds.pool;
         words = holds.words;
@@ -143,10 +151,10 @@ module _ {G Op : Type 0} (c : Crew G Op) (l : Layout) (p : Place) (free : List �
         tagged = holds.tagged;
         kept = is;
         acts = all_last c l p free keeps None h k moves M.workers holds.actors
-            (all_stay_written k refl refl M.workers holds.actors (all_old p (λ w. false) M.state (writings holds.actors) h holds.actors holds.sound.words refl
-            holds.sound.workers) holds.acts) holds.acts;
+            (all_stay_written k refl refl M.workers holds.actors (all_old p (λ w. false) M.state (writings everybody) h everybody holds.sound.words refl
+            holds.sound.workers).1 holds.acts) holds.acts;
         rows = rows_same c.anatomy l free M.state.counter h k M.workers refl (inserts_settled M.progress word) holds.rows;
-        history = history_settled c.anatomy l free h k word M.workers holds.different follows refl refl refl (λ x ne. other_shadow x ne) holds.history;
+        history = history_settled c.anatomy l free h k word M.workers holds.different follows refl refl refl refl (λ x ne. other_shadow x ne) holds.history;
         different = holds.different;
       }
     where
@@ -168,15 +176,15 @@ module _ {G Op : Type 0} (c : Crew G Op) (l : Layout) (p : Place) (free : List �
       }) (word_bare M.state.words word ∙ sym (greater (shadow_at M.state word) kept less)) in
       after_it r.0 (subst c.kept same r.1) (subst (λ k. c.later None h k) same r.2)
 
-  -- it is private to a worker
-  rises_shut : shadow_at M.state word < kept → IsShut l free h word → Holds c l p free N
-  rises_shut less s = let r = keeps.blind h k None holds.kept alike in after_it holds.ghost r.0 r.1
+  -- it is private to a worker, or a word of a foreign row
+  rises_hidden : shadow_at M.state word < kept → IsHidden l free h word → Holds c l p free N
+  rises_hidden less hidden = let r = keeps.blind h k None holds.kept alike in after_it holds.ghost r.0 r.1
     where
       k : Heap G
       k = heap_of N holds.given holds.ghost
 
       apart : (x : ℕ) → IsOpen l free h x → x ≢ word
-      apart x o e = s.unlinked (o.given s.row s.pool (subst (λ y. IsWordOf l s.row y) (sym e) s.word))
+      apart x o e = hidden (subst (IsOpen l free h) e o)
 
       some_none : (e : Entry) → None ≡ Some e → ⊥
       some_none e q = cc
@@ -202,11 +210,11 @@ module _ {G Op : Type 0} (c : Crew G Op) (l : Layout) (p : Place) (free : List �
       }
 
   -- it is the one or the other
-  private_or_away : (us : List (Worker Op)) (gs : List Actor) → AllAct c l p free h us gs → IsShut l free h word ⊎ IsNobodys gs word
+  private_or_away : (us : List (Worker Op)) (gs : List Actor) → AllAct c l p free h us gs → IsHidden l free h word ⊎ IsNobodys gs word
   private_or_away [] [] m = inr tt
   private_or_away [] (g ∷ gs) m = absurd m
   private_or_away (u ∷ us) [] m = absurd m
-  private_or_away (u ∷ us) (g ∷ gs) m = ⊎_elim (λ k. inl (all_among (IsShut l free h) g.private word (shut_of c l p free h u g m.0) k))
+  private_or_away (u ∷ us) (g ∷ gs) m = ⊎_elim (λ k. inl (all_among (IsHidden l free h) g.private word (hidden_of c l p free h u g m.0) k))
       (λ k. ⊎_elim (λ q. inl q) (λ q. inr (k, q)) (private_or_away us gs m.1)) (among_or_away g.private word)
 
   won_open : (bare : ℕ) (us : List (Worker Op)) (gs : List Actor) → AllAct c l p free h us gs → HasWon (writings gs) word bare → IsOpen l free h word
@@ -218,11 +226,17 @@ module _ {G Op : Type 0} (c : Crew G Op) (l : Layout) (p : Place) (free : List �
       (among_or_away (goes_for g.at) word))
       (λ k. won_open bare us gs m.1 k) (won_parts (option_to_list (writing_at g.at)) (writings gs) word bare q)
 
+  foreign_or_not : IsHidden l free h word ⊎ IsNobodys everybody word
+  foreign_or_not = ⊎_elim
+      (λ k. inl (all_among (IsHidden l free h) holds.stranger.private word (outside_hidden l free h holds.opening holds.stranger holds.outside) k))
+      (λ away. ⊎_elim (λ k. inl k) (λ k. inr (away, k)) (private_or_away M.workers holds.actors holds.acts))
+      (among_or_away holds.stranger.private word)
+
   rises : shadow_at M.state word < kept → Holds c l p free N
-  rises less = ⊎_elim (rises_shut less) (λ nobodys. ⊎_elim (λ k. absurd (not_ahead (version_of (word_at M.state word)) (version_of (shadow_at M.state word)) k
+  rises less = ⊎_elim (rises_hidden less) (λ nobodys. ⊎_elim (λ k. absurd (not_ahead (version_of (word_at M.state word)) (version_of (shadow_at M.state word)) k
       (next less)))
       (λ k. rises_open less (won_open (bare_of (word_at M.state word)) M.workers holds.actors holds.acts k)) (holds.sound.settled word refl nobodys))
-      (private_or_away M.workers holds.actors holds.acts)
+      foreign_or_not
     where
       not_ahead : (a b : ℕ) → a ≤ b → a ≡ b + 1 → ⊥
       not_ahead a b i e = omega (arith, i, e)

@@ -27,11 +27,11 @@ use Rattle.flit_runs.specs.Soundness.{IsSound, Needs, owed}
 use Rattle.flit_structure.specs.declared.workers.Doing.{Doing}
 use Rattle.flit_structure.specs.declared.workers.Doing.TheVariants.{Idle, Busy, Evicting}
 use Rattle.flit_structure.specs.declared.workers.Worker.{Worker}
-use Rattle.flit_structure.specs.Moments.{Moment, HaveDifferentNames, update_of}
+use Rattle.flit_structure.specs.Moments.{Opening, Moment, HaveDifferentNames, update_of}
 use Rattle.flit_structure.specs.Meanings.{IsServed, first_at}
-use Rattle.flit_structure.specs.Lawful.{is_insert, rows_needed, fits}
+use Rattle.flit_structure.specs.Lawful.{is_insert, rows_needed, fits, IsOpening}
 use Rattle.flit_crew.specs.Machines.{Machine, Works, Takes, Deed, Fresh, Made, Tags, SeesNoTag, hand_in, hand_of, has_ended, reads_for}
-use Rattle.flit_crew.specs.Heaps.{Heap, heap_of, at_shadow, IsOpen, IsWordOf, IsMine}
+use Rattle.flit_crew.specs.Heaps.{Heap, heap_of, at_shadow, IsOpen, IsForeign, IsWordOf, IsMine}
 use Rattle.flit_crew.specs.Fillings.{IsOfRows, FillsAt}
 use Rattle.flit_crew.specs.Anatomies.{Anatomy, own, own_in, doing_working, deed}
 use Rattle.flit_crew.specs.Accounts.{IsPool, AreTight, IsAny, HasUpdate, Rows, History}
@@ -77,6 +77,29 @@ module _ {Op : Type 0} (A : Anatomy Op) where
 
   abbrev pub links_of : Op → List ℕ
   links_of op = if A.effects op && is_insert (A.call op) then rows_in (hand_in (A.machine op)).spare else []
+
+-- ---- those outside
+
+-- Whoever else writes foreign rows stands in the world of machines as one worker that rests: the words of these rows are
+-- private to it, and it owes and depends on what it has stored.
+pub record Stranger : Type 0 where
+  pub hand : Hand
+  pub needs : List Dependency
+  pub private : List ℕ
+
+abbrev pub stranger_of : Stranger → Actor
+stranger_of g = record { at = Idles g.hand; needs = g.needs; seen = []; private = g.private }
+
+-- a word of a foreign row
+pub record IsForeignWord (l : Layout) (free : List ℕ) (o : Opening) (w : ℕ) : Type 0 where
+  pub row : ℕ
+  pub foreign : IsForeign l free o row
+  pub word : IsWordOf l row w
+
+-- its private words are the words of the foreign rows, all of them
+pub record IsOutside (l : Layout) (free : List ℕ) (o : Opening) (opening : IsOpening l o) (g : Stranger) : Type 0 where
+  pub foreign : AllByRecursion (IsForeignWord l free o) g.private
+  pub all : (row w : ℕ) → Contains opening.free row → (Contains free row → ⊥) → IsWordOf l row w → Contains g.private w
 
 -- ---- all workers
 
@@ -206,11 +229,15 @@ module _ {G Op : Type 0} (c : Crew G Op) (l : Layout) (p : Place) (free : List �
     pub given : List ℕ
     pub ghost : G
     pub actors : List Actor
+    pub opening : IsOpening l M.opening
+    pub pool_is : free ≡ M.opening.free
+    pub stranger : Stranger
+    pub outside : IsOutside l free M.opening opening stranger
     pub accepted : Accepted l
     pub pool : IsPool l free
     pub words : length M.state.words ≡ words_of l
     pub slots : length M.state.slots ≡ l.slots
-    pub sound : IsSound p (λ word. false) (record { state = M.state; workers = actors })
+    pub sound : IsSound p (λ word. false) (record { state = M.state; workers = stranger_of stranger ∷ actors })
     -- where tags are bits, each is of an exchange under way
     pub tagged : p.counted ≡ false → (word : ℕ) → is_tagged (word_at M.state word) ≡ true →
         IsAny (λ g. Tags word (bare_of (word_at M.state word)) g.at) actors

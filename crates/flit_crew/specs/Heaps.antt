@@ -5,6 +5,7 @@ use Rattle.std.specs.FinMap as fin
 use Rattle.flit_words.specs.declared.layouts.Layout.{Layout}
 use Rattle.flit_words.specs.Layouts.{words_of, row_word_of, value_word_of, parts_of}
 use Rattle.flit_words.specs.Words.{bare_of, is_tagged, version_of}
+use Rattle.flit_model.specs.Images.{Recovers}
 use Rattle.flit_model.specs.Settling.{Progress, settles, takes_effect}
 use Rattle.flit_model.specs.declared.calls.Entry.{Entry}
 use Rattle.flit_runs.specs.Workings.{Dependency}
@@ -77,10 +78,22 @@ AreOld h needs = (w v : ℕ) → Needs needs w v → v ≤ version_of (at_word h
 abbrev pub IsWordOf : Layout → ℕ → ℕ → Type 0
 IsWordOf l row w = ((part : ℕ) × (part < parts_of l.kind) × (w ≡ row_word_of l row part)) ⊎ ((l.values ≡ true) × (w ≡ value_word_of l row))
 
--- a word that everybody may reach: where it is a word of a row of the pool, that row was linked
+-- a row that no link of the start image leads to, and that isn't of the pool: others than the structure may write it
+pub record IsForeign (l : Layout) (free : List ℕ) (o : Opening) (row : ℕ) : Type 0 where
+  pub rows : List ℕ
+  pub recovers : Recovers l o.words o.content rows
+  pub unreached : Contains rows row
+  pub outside : Contains free row → ⊥
+
+-- a word that everybody may reach: where it is a word of a row of the pool, that row was linked; and it is of no foreign row
 pub record IsOpen {G : Type 0} (l : Layout) (free : List ℕ) (h : Heap G) (w : ℕ) : Type 0 where
   pub within : w < words_of l
   pub given : (row : ℕ) → Contains free row → IsWordOf l row w → Contains h.given row
+  pub ours : (row : ℕ) → IsForeign l free h.opening row → IsWordOf l row w → ⊥
+
+-- a word that nobody may reach but, perhaps, one
+abbrev pub IsHidden : {G : Type 0} → Layout → List ℕ → Heap G → ℕ → Type 0
+IsHidden l free h w = IsOpen l free h w → ⊥
 
 -- the words of some rows hold what they held
 abbrev pub HaveStayed : {G : Type 0} → Layout → Heap G → Heap G → List ℕ → Type 0

@@ -10,6 +10,7 @@ pub mod ExchangeEnds
 pub mod OwnEvents
 pub mod Bounded
 pub mod Others
+pub mod Beside
 pub mod Limited
 pub mod CrewLaws
 pub mod Written

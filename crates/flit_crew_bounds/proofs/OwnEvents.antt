@@ -30,7 +30,7 @@ use Rattle.flit_crew.specs.Heaps.{Heap, heap_of}
 use Rattle.flit_crew.specs.Rows.{times, own_times, own_many, IsDealt}
 use Rattle.flit_crew.specs.Accounts.{inserts_in, IsTight}
 use Rattle.flit_crew.specs.Anatomies.{own, own_in, op_taken}
-use Rattle.flit_crew.specs.Crews.{Crew, Who, Holds, IsBusy, who_of}
+use Rattle.flit_crew.specs.Crews.{Crew, Who, Holds, IsBusy, who_of, stranger_of}
 use Rattle.flit_crew.specs.CrewMeanings.{Bounds}
 use Rattle.flit_crew.specs.Obligations.{Keeps}
 use Rattle.flit_crew.proofs.Rowing.{contained, once}
@@ -114,8 +114,8 @@ module _ {G Op : Type 0} (c : Crew G Op) (l : Layout) (p : Place) (free : List �
 
   durable_so : (m : HeldExchange) → c.anatomy.machine op ≡ Works (Exchanges m) → is_exchange (Some e) ≡ true → IsDurable M.state was.actor.needs
   durable_so m same exchanges =
-      let rules : KeepsRule p M.state was.actor = all_middle (KeepsRule p M.state) was.before was.actor was.behind
-      (rule p (λ x. false) (world_of M.state was.before was.actor was.behind)
+      let rules : KeepsRule p M.state was.actor = all_middle (KeepsRule p M.state) (stranger_of holds.stranger ∷ was.before) was.actor was.behind
+      (rule p (λ x. false) (world_of M.state (stranger_of holds.stranger ∷ was.before) was.actor was.behind)
       (sound_now c l p free keeps M a name number op call begun b holds K (same_le K))) in
       let at : was.actor.at ≡ Exchanges m = at_it c l p free keeps M a name number op call begun b holds K (same_le K) (Exchanges m) same in
       let asks : exchange_asked p m ≡ Some e = ap (machine_asks p) (sym same) ∙ q in
