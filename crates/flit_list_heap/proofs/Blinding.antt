@@ -62,7 +62,7 @@ module _ (l : Layout) (free : List ℕ) (h : ListHeap) (kept : Kept l free h) (w
     opened = kept.opened;
     apart = kept.apart;
     given = kept.given;
-    bare = λ v r. let o : IsOpen l free h v = record { within = r.within; given = r.given } in ap is_tagged (words v o) ∙ kept.bare v o;
+    bare = λ v r. let o : IsOpen l free h v = record { within = r.within; given = r.given; ours = r.ours } in ap is_tagged (words v o) ∙ kept.bare v o;
     untagged = λ v b. untagged v (subst (λ n. v < n) (sym (shadows_number ∙ kept.shadows)) b);
     keys = λ r m. words (row_word_of l r 0) (key_open l free h kept r m) ∙ kept.keys r m ∙ sym (shadows (row_word_of l r 0) (key_open l free h kept r m));
     values = λ r m v. words (value_word_of l r) (value_open l free h kept r v m) ∙ kept.values r m v

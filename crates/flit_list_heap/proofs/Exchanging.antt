@@ -178,7 +178,7 @@ module _ (l : Layout) (free : List ℕ) (h : ListHeap) (kept : Kept l free h) (y
     none_joins : Joining l free h kept y from to may e []
     none_joins = record {
       given = kept.given;
-      bare = λ v reached. kept.bare v (record { within = reached.within; given = reached.given });
+      bare = λ v reached. kept.bare v (record { within = reached.within; given = reached.given; ours = reached.ours });
       keys = kept.keys;
       values = kept.values;
       small = kept.small;
@@ -321,6 +321,7 @@ module _ (l : Layout) (free : List ℕ) (h : ListHeap) (kept : Kept l free h) (y
         | inl s ↦ absurd (n (subst (λ z. IsWordOf l z v) (sym s) o))
         | inr m ↦ m
       ];
+      ours = reached.ours;
     })
   ]
 

@@ -8,12 +8,15 @@ use Rattle.flit_words.specs.declared.layouts.Kind.{Kind}
 use Rattle.flit_words.specs.declared.layouts.Kind.TheVariants.{List as List_kind, Hash, Tree as Tree_kind}
 use Rattle.flit_words.specs.Layouts.{parts_of, first_row_of, last_row_of, words_of, row_word_of, value_word_of}
 use Rattle.flit_model.specs.Lists.{IsRisingFrom, next_word, rows_on_chains}
+use Rattle.flit_model.specs.Images.{Chains}
 use Rattle.flit_model.proofs.Elements.{all_contained}
 use Rattle.flit_model.proofs.Rising.{rising_each}
 use Rattle.flit_model.proofs.Membership.{contains-list_any, list_any-contains}
 use Rattle.flit_model.proofs.Chains.{chains_unique, chains_within}
-use Rattle.flit_crew.specs.Heaps.{IsOpen, IsWordOf}
+use Rattle.flit_model.proofs.Shapes.{shapes_agree, free_rows-contains}
+use Rattle.flit_crew.specs.Heaps.{IsOpen, IsForeign, IsWordOf}
 use Rattle.flit_crew.proofs.Placing.{same_row}
+use Rattle.flit_crew.proofs.Outside.{foreign_fits}
 use Rattle.flit_list_heap.specs.Links.{LinkWord, Head, Next, place_of}
 use Rattle.flit_list_heap.specs.Keeping.{ListHeap, IsReached, IsLinked, IsLinkAt, Kept}
 
@@ -208,9 +211,25 @@ module _ (l : Layout) (free : List ℕ) (h : ListHeap) (kept : Kept l free h) wh
 
   -- ---- everybody may reach the words of linked rows
 
+  -- a foreign row is not linked
+  foreign_unlinked : (row : ℕ) → IsForeign l free h.opening row → IsLinked l h row → ⊥
+  foreign_unlinked row f (inl a) =
+      let reached = (shapes_agree l h.opening.words f.recovers.shape (Chains a.chain) f.recovers.lawful (other, a.lawful)).1 in
+      let unreached = ((free_rows-contains l f.recovers.shape row).0 (subst (λ rows. Contains rows row) f.recovers.free_rows f.unreached)).2 in
+      unreached (subst (λ rows. Contains rows row) (sym reached) a.on)
+  foreign_unlinked row f (inr c) = f.outside (kept.given row c)
+
   word_open : (r w : ℕ) → IsLinked l h r → w < words_of l → IsWordOf l r w → IsOpen l free h w
-  word_open r w k below word = record { within = below; given = λ row pool mine. of_row row pool mine k }
+  word_open r w k below word = record {
+    within = below;
+    given = λ row pool mine. of_row row pool mine k;
+    ours = λ row f mine. foreign_unlinked row f (subst (IsLinked l h) (sym (one_row row f mine)) k);
+  }
     where
+      one_row : (row : ℕ) → IsForeign l free h.opening row → IsWordOf l row w → row ≡ r
+      one_row row f mine =
+          let fit = foreign_fits l free h.opening row f in same_row l row r w fit.0 fit.1 (row_fits r k).0 (row_fits r k).1 mine word
+
       of_row : (row : ℕ) → Contains free row → IsWordOf l row w → IsLinked l h r → Contains h.given row
       of_row row pool mine k =
           let same : row ≡ r = same_row l row r w (all_contained (λ q. 1 ≤ q) free row (pool_from free kept.pool.rising) pool)
@@ -236,10 +255,8 @@ module _ (l : Layout) (free : List ℕ) (h : ListHeap) (kept : Kept l free h) wh
   head_open : (a : ℕ) → a < l.buckets → IsOpen l free h a
   head_open a b = record {
     within = place_below (Head a) b;
-    given = λ row pool word. absurd (elim word [
-      | inl p ↦ far a (l.buckets + parts_of l.kind * (row - 1)) p.0 (more l.buckets a (parts_of l.kind * (row - 1)) b) p.2
-      | inr v ↦ head_value l.buckets l.rows a row b (sym (value-place l other row) ∙ sym v.1)
-    ]);
+    given = λ row pool word. absurd (of_none row word);
+    ours = λ row f word. of_none row word;
   }
     where
       more : (b a n : ℕ) → a < b → a < b + n
@@ -247,6 +264,10 @@ module _ (l : Layout) (free : List ℕ) (h : ListHeap) (kept : Kept l free h) wh
 
       far : (a b p : ℕ) → a < b → a ≡ b + p → ⊥
       far a b p i e = omega (arith, i, e)
+
+      of_none : (row : ℕ) → IsWordOf l row a → ⊥
+      of_none row (inl p) = far a (l.buckets + parts_of l.kind * (row - 1)) p.0 (more l.buckets a (parts_of l.kind * (row - 1)) b) p.2
+      of_none row (inr v) = head_value l.buckets l.rows a row b (sym (value-place l other row) ∙ sym v.1)
 
   pub link_open : (x : LinkWord) → IsLinkAt l h x → IsOpen l free h (place_of l x)
   link_open (Head a) k = head_open a k

@@ -124,7 +124,7 @@ module _ (l : Layout) (free : List ℕ) (h : ListHeap) (kept : Kept l free h) (w
     opened = kept.opened;
     apart = kept.apart;
     given = kept.given;
-    bare = λ v reached. kept.bare v (record { within = reached.within; given = reached.given });
+    bare = λ v reached. kept.bare v (record { within = reached.within; given = reached.given; ours = reached.ours });
     untagged = λ v b. elim (cases_eq v w) [ inl e ↦ ap is_tagged (set_here v e) ∙ bare | inr ne ↦ ap is_tagged (set_off v ne) ∙ kept.untagged v b ];
     keys = λ r lr. still_solid (row_word_of l r 0) (kept.keys r lr);
     values = λ r lr v. still_solid (value_word_of l r) (kept.values r lr v);

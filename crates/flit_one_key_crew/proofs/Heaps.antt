@@ -91,13 +91,13 @@ module _ (l : Layout) (small : IsSmall l) (free : List ℕ) (h : Words_of) (is :
       open_head : IsOpen l free h 0
       open_head = Rattle.flit_one_key_crew.proofs.RowWords.head_open l small free h
 
-      opens : IsOut free h → (w : ℕ) → w < words_of l → IsOpen l free h w
+      opens : IsOut l free h → (w : ℕ) → w < words_of l → IsOpen l free h w
       opens = out_opens l small free h is.pool
 
       head : slice_index words 0 ≡ at_word h 0
       head = words_same 0 open_head
 
-      same : IsOut free h → SameRow l h k
+      same : IsOut l free h → SameRow l h k
       same out = same_row l small h k (λ w lt other. words_same w (opens out w lt))
 
   pub blind : (k : Words_of) → AreAlike l free h k → Kept l free k × Later l free h k
@@ -124,7 +124,7 @@ module _ (l : Layout) (small : IsSmall l) (free : List ℕ) (h : Words_of) (is :
       by_test : (t : Bool) → eqb w 0 ≡ t → w ≡ 0
       by_test true e = eqb-true w 0 e
       by_test false e = let other = eqb-false w 0 e in
-          absurd (resting (at_word h w) (at_shadow h w) (is.rest (open_out l small free h is.pool w o other) w o.within other) ahead)
+          absurd (resting (at_word h w) (at_shadow h w) (is.rest (open_out l small free h w o other) w o.within other) ahead)
 
   settles_head : (e : Entry) → h.progress.waiting ≡ Rattle.std.specs.FinMap.insert Rattle.std.specs.FinMap.empty 0 e →
       Kept l free (written h 0 h.ghost) × Later l free h (written h 0 h.ghost)
@@ -192,7 +192,7 @@ module _ (l : Layout) (small : IsSmall l) (free : List ℕ) (h : Words_of) (is :
       pub head : IsHead h to (length (updates h) + 1)
       pub story : IsStory (row_key l h) (row_value l h) (linked_first h) (updates h ++ e ∷ [])
       pub sealed : (row_key l h ≤ 4294967292) × (row_link l h ≡ 0)
-      pub out : IsOut free after_win
+      pub out : IsOut l free after_win
       pub rest : (w : ℕ) → w < words_of l → w ≢ 0 → at_word h w ≡ at_shadow h w
 
     pub wins_head : WinsSo → Kept l free after_win × Later l free h after_win

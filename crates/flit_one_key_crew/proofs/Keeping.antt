@@ -1,5 +1,5 @@
 -- The sample meets each obligation of the crew.
-use Rattle.std.proofs.Common.{◌≡◌, ◌≢◌, inl, inr, ⊎_elim, ℕ, ◌+◌, ◌<◌, ◌≤◌, true, List, [], length, take, Contains, Some, None, refl, sym, ◌∙◌, ap, subst, arith, append-nil}
+use Rattle.std.proofs.Common.{◌≡◌, ◌≢◌, ⊎_elim, ℕ, ◌+◌, ◌<◌, ◌≤◌, true, List, [], length, take, Contains, Some, None, refl, sym, ◌∙◌, ap, subst, arith, append-nil}
 use Rattle.std.proofs.lemmas.List.{get_or-set_other, take-append-le}
 use Rattle.flit_words.specs.declared.layouts.Layout.{Layout}
 use Rattle.flit_words.specs.Words.{version_of, value_of, bare_of}
@@ -30,7 +30,7 @@ use Rattle.flit_crew.specs.Obligations.{Keeps, WonSo, IsAfter}
 use Rattle.flit_one_key.specs.Operations.{At, Head, Key, Value, Row, Words, RowValue, Link, Ends, Rests, HeldOp}
 use Rattle.flit_one_key.specs.Steps.{IsSmall, key_word, value_word, with_search, with_number}
 use Rattle.flit_one_key_crew.specs.OneKeyAnatomy.{machine_at, with_machine_at, with_machine, one_key_anatomy, effects_at, past_at, storing_at, resumed_at, resumed}
-use Rattle.flit_one_key_crew.specs.OneKeyCrew.{Words_of, version_first, updates, HasLinked, IsOut, IsRight, LinkKnows, KnowsAt, Kept, Later, one_key_crew, OneKeyKeeps}
+use Rattle.flit_one_key_crew.specs.OneKeyCrew.{Words_of, version_first, updates, HasLinked, IsRight, LinkKnows, KnowsAt, Kept, Later, one_key_crew, OneKeyKeeps}
 use Rattle.flit_one_key_crew.proofs.RowWords.{head_open, below, row_has, key_at, value_at}
 use Rattle.flit_one_key_crew.proofs.Heaps.{SameRow, same_row, blind, settles_word}
 use Rattle.flit_one_key_crew.proofs.Knowing.{Carries, carries_further, knows_on, like_same, like_after, exchange_stays, inserting}
@@ -132,16 +132,14 @@ module _ (l : Layout) (small : IsSmall l) (p : Place) (free : List ℕ) where
 
   -- a word of its row is stored: one of those that its store fills
   shut_in : (h : Words_of) → Kept l free h → (w : ℕ) → IsShut l free h w → HasLinked h → ⊥
-  shut_in h is w shut has = by_out (is.out has)
+  shut_in h is w shut has =
+      let same = only shut.pool in
+      shut.unlinked (subst (Contains h.given) same ((is.out has).0 (subst (Contains free) (sym same) shut.pool)))
     where
       only : Contains free shut.row → 1 ≡ shut.row
       only c = ⊎_elim (λ e. absurd (contains_none shut.row (subst (λ xs. Contains xs shut.row) e c)))
           (λ e. ⊎_elim (λ q. q) (λ n. absurd (contains_none shut.row n))
           (Rattle.flit_model.proofs.Membership.contains_cases 1 [] shut.row (subst (λ xs. Contains xs shut.row) e c))) is.pool
-
-      by_out : IsOut free h → ⊥
-      by_out (inl e) = contains_none shut.row (subst (λ xs. Contains xs shut.row) e shut.pool)
-      by_out (inr g) = shut.unlinked (subst (Contains h.given) (only shut.pool) g)
 
   module _ (h : Words_of) (is : Kept l free h) (me you : Who) (f : IsFurther me you) (w to : ℕ) (shut : IsShut l free h w) (call : Call) (reply : Reply) where
     abbrev k : Words_of

@@ -2,7 +2,7 @@
 use Rattle.std.proofs.Common.{◌≡◌, ◌≢◌, ◌⊎◌, inl, inr, ⊎_elim, ℕ, zero, suc, ◌+◌, ◌==◌, ◌≤◌, ◌&&◌, not, eqb, Bool, true, false, List, [], ◌∷◌, ◌++◌, length, take, Contains, Option, Some, None, refl, sym, ◌∙◌, ap, subst, arith, if◌then◌else◌}
 use Rattle.std.proofs.lemmas.List.{length-append, take-append-le}
 use Rattle.flit_words.specs.declared.layouts.Layout.{Layout}
-use Rattle.flit_words.specs.Words.{version_of, value_of, bare_of, is_tagged}
+use Rattle.flit_words.specs.Words.{version_of, value_of, bare_of}
 use Rattle.flit_model.specs.Maps.{reply_of, map_after_all}
 use Rattle.flit_model.specs.declared.calls.Call.{Call}
 use Rattle.flit_model.specs.declared.calls.Reply.{Reply}
@@ -19,7 +19,6 @@ use Rattle.flit_runs.specs.Workings.{Exchanges}
 use Rattle.flit_pv.specs.declared.exchanges.Exchanging.{Exchanging}
 use Rattle.flit_pv.specs.declared.exchanges.Exchanging.TheVariants.{Ready, Tries, TriesBare, WritesBack, Withdraws, Lowers, Ended}
 use Rattle.flit_pv.specs.declared.exchanges.Exchanged.TheVariants.{Won, Lost, Worn}
-use Rattle.flit_pv.specs.declared.queues.Noted.{Noted}
 use Rattle.flit_pv.proofs.OneEvent.{store_goes_further, exchange_goes_on}
 use Rattle.flit_rows.specs.Taking.{HeldTake, take_taken}
 use Rattle.flit_rows.specs.Shares.{rows_in}

@@ -11,7 +11,7 @@ use Rattle.flit_words.specs.Words.{version_of, value_of, bare_of, is_tagged}
 use Rattle.flit_words.specs.Links.{link_of}
 use Rattle.flit_model.specs.Lists.{IsListLink, IsLawfulChain, IsLawfulList, IsRisingFrom, value_in, link_in, key_in, row_value_in, next_word, list_pairs, list_map, rows_on_chains, pair_in}
 use Rattle.flit_model.specs.Images.{Shape, Chains, Grown, IsLawfulAs, map_in, free_rows}
-use Rattle.flit_model.proofs.Shapes.{free_rows-contains}
+use Rattle.flit_model.proofs.Shapes.{recovered_rows, free_rows-contains}
 use Rattle.flit_model.proofs.Membership.{contains_first, contains_later}
 use Rattle.flit_place.specs.Tags.{Place}
 use Rattle.flit_place.proofs.WordTags.{bare-untagged}
@@ -23,7 +23,7 @@ use Rattle.flit_one_key.specs.Operations.{HeldOp}
 use Rattle.flit_one_key.specs.Steps.{IsSmall, key_word, value_word}
 use Rattle.flit_one_key.specs.OneKey.{Opens}
 use Rattle.flit_one_key_crew.specs.OneKeyCrew.{map_if, link_to}
-use Rattle.flit_one_key_crew.specs.OneKeyCrew.{Words_of, row_key, row_value, linked_first, updates, IsStory, HasLinked, IsHead, Kept, one_key_crew}
+use Rattle.flit_one_key_crew.specs.OneKeyCrew.{Words_of, row_key, row_value, linked_first, updates, IsStory, HasLinked, IsHead, IsOut, Kept, one_key_crew}
 use Rattle.flit_one_key_crew.proofs.RowWords.{one_bucket, last_row, below}
 use Rattle.flit_one_key_crew.proofs.Stories.{link_told}
 use Rattle.flit_one_key_crew.proofs.Waits.{made_none}
@@ -104,8 +104,8 @@ module _ (l : Layout) (p : Place) (free : List ℕ) (o : Opening) (opens : Opens
   built : (linked : Bool) → length o.words ≡ words_of l → ((w : ℕ) → w < words_of l → is_tagged (slice_index o.words w) ≡ false) →
       value_in o.words 0 ≡ link_to linked → o.content ≡ map_if linked (value_in o.words (key_word l)) (row_value_in l o.words 1) →
       (linked ≡ true → (value_in o.words (key_word l) ≤ 4294967292) × (value_in o.words (key_word l + 1) ≡ 0)) →
-      (free ≡ []) ⊎ (free ≡ 1 ∷ []) → (linked ≡ true → free ≡ []) → Kept l free h
-  built linked whole untagged head content sealed one none = record {
+      (free ≡ []) ⊎ (free ≡ 1 ∷ []) → (linked ≡ true → IsOut l free h) → Kept l free h
+  built linked whole untagged head content sealed one out = record {
     words = length-map o.words bare_of ∙ whole;
     shadows = whole;
     untagged = untagged;
@@ -121,7 +121,7 @@ module _ (l : Layout) (p : Place) (free : List ℕ) (o : Opening) (opens : Opens
     shadow = record { counts = plus (version_of (slice_index o.words 0)); links = head ∙ ap link_to first };
     waits = inl refl;
     pool = one;
-    out = λ q. inl (none (has q));
+    out = λ q. out (has q);
     sealed = λ q. let s = sealed (has q) in
         (subst (λ k. k ≤ 4294967292) (sym (value_here (key_word l))) s.0, value_here (key_word l + 1) ∙ s.1);
     rest = λ q w lt other. same_word w lt;
@@ -159,10 +159,16 @@ module _ (l : Layout) (p : Place) (free : List ℕ) (o : Opening) (opens : Opens
         let r = (free_rows-contains l (Chains chain) row).0 (free_row row c) in
         (subst (λ x. first_row_of x ≤ row) small.list r.0, subst (λ n. row ≤ n) (last_row l small) r.1)))
 
-    none_free : chain 0 ≡ 1 ∷ [] → free ≡ []
-    none_free is = ⊎_elim (λ e. e)
-        (λ e. let r = (free_rows-contains l (Chains chain) 1).0 (free_row 1 (subst (λ xs. Contains xs 1) (sym e ∙ opens.pool) (contains_first 1 []))) in
-        absurd (r.2 (subst (λ xs. Contains xs 1) (sym (on_chain ∙ is)) (contains_first 1 [])))) one_free
+    -- a row on the chain is none of those that no link leads to
+    reached : chain 0 ≡ 1 ∷ [] → Contains (free_rows l (Chains chain)) 1 → ⊥
+    reached is has = ((free_rows-contains l (Chains chain) 1).0 has).2 (subst (λ xs. Contains xs 1) (sym (on_chain ∙ is)) (contains_first 1 []))
+
+    out_first : chain 0 ≡ 1 ∷ [] → IsOut l free h
+    out_first is = (
+      λ pool. absurd (reached is (free_row 1 (subst (λ xs. Contains xs 1) opens.pool pool))),
+      λ f. reached is (subst (λ xs. Contains xs 1)
+          (recovered_rows l o.words o.content o.content f.rows opens.lawful.free f.recovers opens.lawful.recovers ∙ rows) f.unreached),
+    )
 
     chained : IsLawfulChain l o.words 0 (chain 0)
     chained = k.chains 0 (subst (λ n. 0 < n) (sym (one_bucket l small)) (omega arith))
@@ -180,7 +186,7 @@ module _ (l : Layout) (p : Place) (free : List ℕ) (o : Opening) (opens : Opens
         built true k.whole k.untagged (plain_value l (value_in o.words 0) 1 c.links.0 c.unmarked c.chain.0)
         (content ∙ ap (λ rs. fin.from_entries (list_pairs l o.words rs)) (on_chain ∙ is)
         ∙ ap (λ b. fin.from_entries (map (pair_in l o.words) (cond (not b) (1 ∷ []) []))) unmarked)
-        (λ q. (c.within.0, sym (ap (value_in o.words) (next_at l)) ∙ next)) one_free (λ q. none_free is)
+        (λ q. (c.within.0, sym (ap (value_in o.words) (next_at l)) ∙ next)) one_free (λ q. out_first is)
 
     opened : Kept l free h
     opened = let r = one_row l o.words (chain 0) (last_row l small) chained in by_link r.linked r.rows_are

@@ -2,8 +2,9 @@
 use Rattle.std.proofs.Common.{◌≡◌, ◌≢◌, ◌⊎◌, inl, inr, ⊎_elim, ℕ, zero, suc, ◌+◌, ◌-◌, ◌*◌, ◌<◌, ◌≤◌, Bool, true, false, List, [], ◌∷◌, Contains, refl, sym, ◌∙◌, ap, subst, arith, if◌then◌else◌}
 use Rattle.flit_words.specs.declared.layouts.Layout.{Layout}
 use Rattle.flit_words.specs.Layouts.{words_of, parts_of, least_buckets, most_buckets, first_row_of, last_row_of}
-use Rattle.flit_model.proofs.Membership.{contains_first, contains_none, contains_cases}
-use Rattle.flit_crew.specs.Heaps.{IsOpen, IsWordOf}
+use Rattle.flit_model.proofs.Membership.{contains_none, contains_cases}
+use Rattle.flit_crew.specs.Heaps.{IsOpen, IsForeign, IsWordOf}
+use Rattle.flit_crew.proofs.Outside.{foreign_fits}
 use Rattle.flit_one_key.specs.Steps.{IsSmall, key_word, value_word}
 use Rattle.flit_one_key_crew.specs.OneKeyCrew.{Words_of, IsOut}
 
@@ -131,22 +132,30 @@ module _ (l : Layout) (small : IsSmall l) where
 
   module _ (free : List ℕ) (h : Words_of) where
     pub head_open : IsOpen l free h 0
-    head_open = record { within = below 0 (omega arith); given = λ row c is. absurd (head_of_none row is) }
+    head_open = record {
+      within = below 0 (omega arith);
+      given = λ row c is. absurd (head_of_none row is);
+      ours = λ row f is. head_of_none row is;
+    }
 
-    module _ (pool : (free ≡ []) ⊎ (free ≡ 1 ∷ [])) where
-      -- everybody may reach the words of a row that is out
-      pub out_opens : IsOut free h → (w : ℕ) → w < words_of l → IsOpen l free h w
-      out_opens out w lt = record { within = lt; given = λ row c is. by_out row c out }
-        where
-          only : (row : ℕ) → Contains (1 ∷ []) row → 1 ≡ row
-          only row c = ⊎_elim (λ e. e) (λ n. absurd (contains_none row n)) (contains_cases 1 [] row c)
+    -- everybody may reach the words of a row that is out
+    pub out_opens : (free ≡ []) ⊎ (free ≡ 1 ∷ []) → IsOut l free h → (w : ℕ) → w < words_of l → IsOpen l free h w
+    out_opens pool out w lt = record {
+      within = lt;
+      given = λ row c is. let same = only row c in subst (Contains h.given) same (out.0 (subst (Contains free) (sym same) c));
+      ours = λ row f is. out.1 (subst (IsForeign l free h.opening) (sym (only_foreign row f)) f);
+    }
+      where
+        only : (row : ℕ) → Contains free row → 1 ≡ row
+        only row c = ⊎_elim (λ e. absurd (contains_none row (subst (λ xs. Contains xs row) e c)))
+            (λ e. ⊎_elim (λ q. q) (λ n. absurd (contains_none row n)) (contains_cases 1 [] row (subst (λ xs. Contains xs row) e c))) pool
 
-          by_out : (row : ℕ) → Contains free row → IsOut free h → Contains h.given row
-          by_out row c (inl e) = absurd (contains_none row (subst (λ xs. Contains xs row) e c))
-          by_out row c (inr g) = ⊎_elim (λ e. absurd (contains_none row (subst (λ xs. Contains xs row) e c)))
-              (λ e. subst (Contains h.given) (only row (subst (λ xs. Contains xs row) e c)) g) pool
+        one : (r n : ℕ) → 1 ≤ r → r ≤ n → n ≡ 1 → 1 ≡ r
+        one r n i j e = omega (arith, i, j, e)
 
-      -- and a row is out where everybody may reach one of its words
-      pub open_out : (w : ℕ) → IsOpen l free h w → w ≢ 0 → IsOut free h
-      open_out w o other = ⊎_elim (λ e. inl e)
-          (λ e. inr (o.given 1 (subst (λ xs. Contains xs 1) (sym e) (contains_first 1 [])) (row_has w o.within other))) pool
+        only_foreign : (row : ℕ) → IsForeign l free h.opening row → 1 ≡ row
+        only_foreign row f = let fit = foreign_fits l free h.opening row f in one row (last_row_of l) fit.0 fit.1 last_row
+
+    -- and a row is out where everybody may reach one of its words
+    pub open_out : (w : ℕ) → IsOpen l free h w → w ≢ 0 → IsOut l free h
+    open_out w o other = (λ c. o.given 1 c (row_has w o.within other), λ f. o.ours 1 f (row_has w o.within other))

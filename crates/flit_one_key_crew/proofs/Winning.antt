@@ -9,7 +9,7 @@ use Rattle.flit_model.specs.declared.calls.Call.TheVariants.{Insert, Remove}
 use Rattle.flit_model.specs.declared.calls.Reply.{Reply}
 use Rattle.flit_model.specs.declared.calls.Reply.TheVariants.{Yes}
 use Rattle.flit_model.specs.declared.calls.Entry.{Entry}
-use Rattle.flit_model.proofs.Membership.{contains_first, contains_none}
+use Rattle.flit_model.proofs.Membership.{contains_first}
 use Rattle.flit_place.specs.Tags.{Place}
 use Rattle.flit_place.proofs.WordTags.{version-bare}
 use Rattle.flit_pv.specs.Exchanges.{HeldExchange}
@@ -108,7 +108,10 @@ module _ (l : Layout) (small : IsSmall l) (p : Place) (free : List ℕ) (h : Wor
     story = subst (λ b. IsStory (row_key l h) (row_value l h) b (updates h ++ e ∷ [])) (sym never.0)
         (subst (λ es. IsStory (row_key l h) (row_value l h) false (es ++ e ∷ [])) (sym never.1) (its_call, refl, tt));
     sealed = (subst (λ k. k ≤ 4294967292) (sym s.words.key) s.inserting.small, s.words.link);
-    out = inr (subst (λ rows. Contains (rows ++ h.given) 1) (sym mine) (contains_first 1 h.given));
+    out = (
+      λ pool. subst (λ rows. Contains (rows ++ h.given) 1) (sym mine) (contains_first 1 h.given),
+      λ foreign. foreign.outside (rests.pool 1 own),
+    );
     rest = λ w lt other. rests.words 1 w own (row_has l small w lt other);
   }) (ap (λ c. is_update_by c Yes) s.inserting.insert) (λ i. ap length mine)
     where
@@ -119,7 +122,7 @@ module _ (l : Layout) (small : IsSmall l) (p : Place) (free : List ℕ) (h : Wor
       own = subst (λ rows. Contains rows 1) (sym mine) (contains_first 1 [])
 
       never : (linked_first h ≡ false) × (updates h ≡ [])
-      never = ⊎_elim (λ q. absurd (⊎_elim (λ e. contains_none 1 (subst (λ xs. Contains xs 1) e (rests.pool 1 own))) (λ g. rests.unlinked 1 own g) (is.out q)))
+      never = ⊎_elim (λ q. absurd (rests.unlinked 1 own ((is.out q).0 (rests.pool 1 own))))
           (λ q. q) (linked_or_none h)
 
       its_call : me.call ≡ Insert (row_key l h) (row_value l h)

@@ -23,7 +23,7 @@ use Rattle.flit_runs.specs.Soundness.{Needs}
 use Rattle.flit_structure.specs.Moments.{made}
 use Rattle.flit_structure.specs.Meanings.{key_of, value_put}
 use Rattle.flit_crew.specs.Machines.{Part, ToRead, HasRead as Part_has_read, ToWin, HasWon, HasWritten, HasLost, Other, load_part, v_load_part, exchange_part}
-use Rattle.flit_crew.specs.Heaps.{Heap, at_word, at_shadow}
+use Rattle.flit_crew.specs.Heaps.{Heap, at_word, at_shadow, IsForeign}
 use Rattle.flit_crew.specs.Crews.{Crew, Who}
 use Rattle.flit_crew.specs.Obligations.{Keeps}
 use Rattle.flit_one_key.specs.Operations.{At, Head, Key, Value, Row, Words, RowValue, Link, Ends, Rests, HeldOp}
@@ -91,9 +91,9 @@ IsStory key value false (e ∷ es) = (e.call ≡ Insert key value) × (e.reply �
 abbrev pub HasLinked : Words_of → Type 0
 HasLinked h = (linked_first h ≡ true) ⊎ (1 ≤ length (updates h))
 
--- everybody may reach the row: it isn't in the pool, or was linked
-abbrev pub IsOut : List ℕ → Words_of → Type 0
-IsOut free h = (free ≡ []) ⊎ Contains h.given 1
+-- everybody may reach the row: where it is of the pool, it was linked; and it isn't foreign
+abbrev pub IsOut : Layout → List ℕ → Words_of → Type 0
+IsOut l free h = (Contains free 1 → Contains h.given 1) × (IsForeign l free h.opening 1 → ⊥)
 
 -- what is kept true
 pub record Kept (l : Layout) (free : List ℕ) (h : Words_of) : Type 0 where
@@ -111,16 +111,16 @@ pub record Kept (l : Layout) (free : List ℕ) (h : Words_of) : Type 0 where
   -- the pool has row 1 or none; once the head has linked the row, it is out, its key is one of a map, and its link leads
   -- nowhere; and the words of a row that is out are at rest
   pub pool : (free ≡ []) ⊎ (free ≡ 1 ∷ [])
-  pub out : HasLinked h → IsOut free h
+  pub out : HasLinked h → IsOut l free h
   pub sealed : HasLinked h → (row_key l h ≤ GREATEST_KEY) × (row_link l h ≡ 0)
-  pub rest : IsOut free h → (w : ℕ) → w < words_of l → w ≢ 0 → at_word h w ≡ at_shadow h w
+  pub rest : IsOut l free h → (w : ℕ) → w < words_of l → w ≢ 0 → at_word h w ≡ at_shadow h w
 
 -- what an event leaves: further updates may be made, and a row that is out has its key and its value
 pub record Later (l : Layout) (free : List ℕ) (h k : Words_of) : Type 0 where
   pub opening : k.opening ≡ h.opening
   pub grown : (more : List Entry) × (updates k ≡ updates h ++ more)
-  pub key : IsOut free h → row_key l k ≡ row_key l h
-  pub value : IsOut free h → row_value l k ≡ row_value l h
+  pub key : IsOut l free h → row_key l k ≡ row_key l h
+  pub value : IsOut l free h → row_value l k ≡ row_value l h
 
 -- ---- what a call knows
 

@@ -21,7 +21,7 @@ use Rattle.flit_rows.specs.declared.take_row.Taking.TheVariants.{Draws, Ended as
 use Rattle.flit_rows.specs.Taking.{judged, lacks, is_past}
 use Rattle.flit_structure.specs.Meanings.{key_of, value_put}
 use Rattle.flit_one_key.specs.Operations.{At, Words, RowValue, HeldOp}
-use Rattle.flit_one_key.specs.Steps.{answers, links, link_next, stores, stores_value, row_value_so, row_value_by, row_value_next, words_so, words_by, words_next, row_taken, row_so, row_by, row_next, takes_row, value_next, key_is, key_isnt, head_none, head_so, key_next, links_none, key_word, value_word, to_row, hand_at, searches}
+use Rattle.flit_one_key.specs.Steps.{answers, links, link_next, stores, stores_value, row_value_by, row_value_next, words_by, words_next, row_by, takes_row, value_next, key_is, key_isnt, head_none, head_so, key_next, links_none, key_word, value_word, to_row, hand_at, searches}
 use Rattle.flit_crew_bounds.specs.Left.{machine_left, missing}
 use Rattle.flit_one_key_crew.specs.OneKeyAnatomy.{machine_at}
 use Rattle.flit_one_key_limits.specs.OneKeyLimits.{rest_at, again_at, differs}

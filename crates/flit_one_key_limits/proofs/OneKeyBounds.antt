@@ -2,7 +2,6 @@
 use Rattle.std.proofs.Common.{◌≡◌, ◌≢◌, ◌⊎◌, inl, inr, ⊎_elim, ℕ, ◌+◌, ◌≤◌, ◌==◌, ◌&&◌, ◌||◌, Bool, true, false, List, [], ◌∷◌, length, Option, Some, None, is_none, refl, sym, ◌∙◌, ap, subst, arith, slice_get, slice_index, if◌then◌else◌}
 use Rattle.std.proofs.lemmas.Bool.{false≢true, eq-eqb}
 use Rattle.std.proofs.lemmas.Option.{none-some, same_Some, slice_get_within, get_or_from_slice_get}
-use Rattle.std.proofs.lemmas.List.{get_or-set_other}
 use Rattle.std.proofs.lemmas.List.Elements.{Contains-append_left, Contains-push, Contains-push_cases}
 use Rattle.std.specs.Prelude.{Contains}
 use Rattle.flit_words.specs.declared.layouts.Layout.{Layout}
@@ -10,7 +9,7 @@ use Rattle.flit_words.specs.Words.{is_tagged, bare_of, value_of}
 use Rattle.flit_model.specs.States.{State, word_at}
 use Rattle.flit_model.specs.Effects.{after, answer}
 use Rattle.flit_model.specs.declared.events.Event.{Event}
-use Rattle.flit_model.specs.declared.events.Event.TheVariants.{Load, ReadTag, Raise, Exchange, Store, Draw}
+use Rattle.flit_model.specs.declared.events.Event.TheVariants.{Load, ReadTag, Raise, Exchange, Draw}
 use Rattle.flit_model.specs.declared.calls.Call.{Call}
 use Rattle.flit_model.specs.declared.calls.Call.TheVariants.{Insert, Remove, Contains as Contains_call, Get}
 use Rattle.flit_place.specs.Tags.{Place, dressed}
@@ -25,10 +24,10 @@ use Rattle.flit_pv.specs.declared.exchanges.Exchanging.TheVariants.{Ready, Tries
 use Rattle.flit_pv.specs.declared.exchanges.Exchanged.TheVariants.{Won, Lost, Worn}
 use Rattle.flit_pv.specs.declared.stores.Storing.{Storing}
 use Rattle.flit_pv.specs.declared.stores.Storing.TheVariants.{Reads as Store_reads, MakesRoom as Store_makes_room, Writes, Ended as Store_ended}
-use Rattle.flit_pv.specs.Queues.{is_full, first_persist, persist_of}
+use Rattle.flit_pv.specs.Queues.{persist_of}
 use Rattle.flit_pv.specs.Loads.{HeldLoad, load_asks, load_asked, load_takes, load_taken, load_started}
 use Rattle.flit_pv.specs.VLoads.{HeldVLoad, v_load_asks, v_load_takes, v_load_taken}
-use Rattle.flit_pv.specs.Stores.{HeldStore, store_asks, store_asked, store_taken}
+use Rattle.flit_pv.specs.Stores.{HeldStore, store_asked, store_taken}
 use Rattle.flit_pv.specs.Exchanges.{HeldExchange, exchange_asks, exchange_asked, exchange_takes, exchange_taken, exchange_at, exchange_loses, tries_again, ready_asks, ready_takes}
 use Rattle.flit_rows.specs.declared.take_row.Took.TheVariants.{Taken}
 use Rattle.flit_rows.specs.declared.take_row.Taking.{Taking}
@@ -213,9 +212,9 @@ module _ (l : Layout) (p : Place) (free : List ℕ) (small : IsSmall l) (s : Sta
   gone : (at : At) (own : Own at) (row : ℕ) → HasLinked h → Contains free row → (Contains h.given row → ⊥) → ⊥
   gone at own row linked pool unlinked = ⊎_elim
       (λ none. none_in row (subst (λ xs. Contains xs row) none pool))
-      (λ given. ⊎_elim (λ none. none_in row (subst (λ xs. Contains xs row) none pool))
-      (λ one. unlinked (subst (λ r. Contains h.given r) (one_in row (subst (λ xs. Contains xs row) one pool)) given)) own.kept.pool)
-      (own.kept.out linked)
+      (λ one. let same = one_in row (subst (λ xs. Contains xs row) one pool) in
+      unlinked (subst (Contains h.given) same ((own.kept.out linked).0 (subst (Contains free) (sym same) pool))))
+      own.kept.pool
     where
       none_in : (x : ℕ) → Contains [] x → ⊥
       none_in x h = absurd (omega (arith, h.1))

@@ -32,7 +32,7 @@ use Rattle.flit_tree_heap.proofs.Unique.{cut-law}
 use Rattle.flit_tree_heap.proofs.Steps.{top-plain}
 use Rattle.flit_tree_heap.proofs.Images.{nowhere, lawful_to, lawful_back, map_get, map_above, row_contains, contains_row}
 use Rattle.flit_tree_heap.proofs.Maps.{gives, had_before, has_after, gives_some, says_yes, settled_stays, waits_cases, waits_on, waits_now}
-use Rattle.flit_tree_heap.proofs.Rows.{row_range, pool_range, edge_word, one_row, word_within, last_row, linked_given, edge_number, edge_parts, edge_open, left_open, right_open, leaf_apart, value_word_at}
+use Rattle.flit_tree_heap.proofs.Rows.{row_range, pool_range, foreign_row, edge_word, one_row, word_within, last_row, linked_given, edge_number, edge_parts, edge_open, left_open, right_open, leaf_apart, value_word_at}
 use Rattle.flit_tree_heap.proofs.Recovering.{shadows_get}
 use Rattle.flit_tree_heap.proofs.Viewing.{lawful_one, shadows_view, view_set}
 
@@ -161,7 +161,7 @@ module _ (l : Layout) (free : List ℕ) (h : TreeHeap) (K : IsKept l free h) (w0
   value_off r = word_off (value_word_of l r) ((edge_parts l free h K w0 X.edge).2 r)
 
   open_up : (w : ℕ) → IsOpen l free h w → IsOpen l free k w
-  open_up w o = record { within = o.within; given = λ r c x. Contains-append_right rows h.given r (o.given r c x) }
+  open_up w o = record { within = o.within; given = λ r c x. Contains-append_right rows h.given r (o.given r c x); ours = o.ours }
 
   linked_up : (r : ℕ) → IsLinked l h r → IsLinked l k r
   linked_up r (inl e) = inl e
@@ -318,6 +318,10 @@ module _ (l : Layout) (free : List ℕ) (h : TreeHeap) (K : IsKept l free h) (w0
             let m = pool_range l free h K r d in
             let same : row ≡ r = one_row l K.layout row r w (omega (arith, n.0)) n.1 (omega (arith, m.0)) m.1 o x in
             Contains-append_left rows h.given r (subst (Contains rows) same c);
+        ours = λ r f x.
+            let m = foreign_row l K.layout free h.opening r f in
+            let same : row ≡ r = one_row l K.layout row r w (omega (arith, n.0)) n.1 (omega (arith, m.0)) m.1 o x in
+            f.outside (subst (Contains free) same (X.resting.pool row c));
       }
 
   new_word : (row w : ℕ) → Contains rows row → IsWordOf l row w → w ≢ w0
@@ -676,6 +680,7 @@ module _ (l : Layout) (free : List ℕ) (h : TreeHeap) (K : IsKept l free h) (w0
   open_back w o d = record {
     within = o.within;
     given = λ r c x. elim (Contains-append_cases rows h.given r (o.given r c x)) [ inl a ↦ absurd (d (X.resting.words r w a x)) | inr a ↦ a ];
+    ours = o.ours;
   }
 
   bare_kept : (w : ℕ) → IsOpen l free k w → is_tagged (at_word k w) ≡ false

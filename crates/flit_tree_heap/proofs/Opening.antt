@@ -24,7 +24,7 @@ use Rattle.flit_model.proofs.FixedRows.{fixed_value}
 use Rattle.flit_place.proofs.WordTags.{bare-untagged}
 use Rattle.flit_structure.specs.Moments.{Opening}
 use Rattle.flit_structure.specs.Lawful.{IsOpening, AreAmong}
-use Rattle.flit_crew.specs.Heaps.{at_word, waits_at, IsOpen, IsWordOf}
+use Rattle.flit_crew.specs.Heaps.{at_word, waits_at, IsOpen, IsForeign, IsWordOf}
 use Rattle.flit_tree_heap.specs.Edges.{left, right, other, row_of, flag_of, frozen_of}
 use Rattle.flit_tree_heap.specs.Routes.{reading, key_at}
 use Rattle.flit_tree_heap.specs.Views.{TreeHeap, IsTreeLayout, IsLinked, IsLeafRow, LeadsOn, IsInnerRow, IsEdge, IsView}
@@ -33,7 +33,7 @@ use Rattle.flit_tree_heap.specs.Opened.{first_heap, fresh_opening}
 use Rattle.flit_tree_heap.proofs.Growths.{IsLeaf, IsTree, IsRow}
 use Rattle.flit_tree_heap.proofs.Words.{other-left, other-right}
 use Rattle.flit_tree_heap.proofs.Images.{nowhere, value_zero, lawful_to, row_contains, contains_row}
-use Rattle.flit_tree_heap.proofs.Rows.{value_word_at, row_word, last_row, one_row, word_within}
+use Rattle.flit_tree_heap.proofs.Rows.{value_word_at, row_word, last_row, one_row, word_within, foreign_row}
 use Rattle.flit_tree_heap.proofs.Viewing.{lawful_one}
 
 all_contained_by : (P : ℕ → Type 0) (xs : List ℕ) → ((x : ℕ) → Contains xs x → P x) → AllByRecursion P xs
@@ -80,18 +80,23 @@ module _ (l : Layout) (o : Opening) (layout : IsTreeLayout l) (t : Tree) (m : Is
       let p = (free_rows-contains l (Grown t) row).0 (among row c) in
       (rw layout.kind at p.0, omega (arith, p.1, last_row l layout), p.2)
 
-  -- the words of a row that isn't in the pool are open
-  row_open : (r : ℕ) → 1 ≤ r → r ≤ l.rows + 5 → (Contains o.free r → ⊥) → (w : ℕ) → IsWordOf l r w → IsOpen l o.free h w
-  row_open r a b n w i = record {
+  -- the words of a row that isn't in the pool and isn't foreign are open
+  row_open : (r : ℕ) → 1 ≤ r → r ≤ l.rows + 5 → (Contains o.free r → ⊥) → (IsForeign l o.free o r → ⊥) → (w : ℕ) → IsWordOf l r w → IsOpen l o.free h w
+  row_open r a b n ours w i = record {
     within = word_within l layout r w a b i;
     given = λ q c x.
         let p = pool_row q c in
         let e : q ≡ r = one_row l layout q r w (omega (arith, p.0)) p.1 a b x i in
         absurd (n (subst (Contains o.free) e c));
+    ours = λ q f x.
+        let p = foreign_row l layout o.free o q f in
+        let e : q ≡ r = one_row l layout q r w (omega (arith, p.0)) p.1 a b x i in
+        ours (subst (IsForeign l o.free o) e f);
   }
 
   fixed_row_open : (r : ℕ) → 1 ≤ r → r ≤ 5 → (w : ℕ) → IsWordOf l r w → IsOpen l o.free h w
-  fixed_row_open r a b w i = row_open r a (omega arith) (λ c. omega (arith, (pool_row r c).0)) w i
+  fixed_row_open r a b w i =
+      row_open r a (omega arith) (λ c. omega (arith, (pool_row r c).0)) (λ f. omega (arith, (foreign_row l layout o.free o r f).0)) w i
 
   three : (n : ℕ) → n < 3 → n < parts_of l.kind
   three n b = rw layout.kind b
@@ -117,7 +122,8 @@ module _ (l : Layout) (o : Opening) (layout : IsTreeLayout l) (t : Tree) (m : Is
   tree_open : (r : ℕ) → IsRow r t → (w : ℕ) → IsWordOf l r w → IsOpen l o.free h w
   tree_open r i w x =
       let n = tree_row r i in
-      row_open r (omega (arith, n.0)) n.1 (λ c. (pool_row r c).2 (row_contains l layout.accepted layout.kind t r i)) w x
+      let reached = row_contains l layout.accepted layout.kind t r i in
+      row_open r (omega (arith, n.0)) n.1 (λ c. (pool_row r c).2 reached) (λ f. (foreign_row l layout o.free o r f).2 (t, m, reached)) w x
 
   -- ---- rows
 

@@ -4,12 +4,13 @@ use Rattle.flit_words.specs.declared.layouts.Layout.{Layout}
 use Rattle.flit_words.specs.Layouts.{words_of, last_row_of, parts_of, row_word_of, value_word_of}
 use Rattle.flit_words.specs.Words.{value_of}
 use Rattle.flit_model.specs.Images.{Grown}
-use Rattle.flit_model.proofs.Shapes.{reached_rows_given}
+use Rattle.flit_model.proofs.Shapes.{shapes_agree, reached_rows_given, free_rows-contains}
 use Rattle.flit_model.proofs.FixedRows.{tree_buckets, tree_last_row, tree_row_word}
-use Rattle.flit_crew.specs.Heaps.{at_word, IsOpen, IsWordOf}
+use Rattle.flit_structure.specs.Moments.{Opening}
+use Rattle.flit_crew.specs.Heaps.{at_word, IsOpen, IsForeign, IsWordOf}
 use Rattle.flit_tree_heap.specs.Edges.{left, right, own, other, row_of}
 use Rattle.flit_tree_heap.specs.Routes.{reading, key_at, value_at}
-use Rattle.flit_tree_heap.specs.Views.{TreeHeap, IsTreeLayout, IsLinked, IsLeafRow, IsInnerRow, IsEdge}
+use Rattle.flit_tree_heap.specs.Views.{TreeHeap, IsTreeLayout, Reaches, IsLinked, IsLeafRow, IsInnerRow, IsEdge}
 use Rattle.flit_tree_heap.specs.Kept.{IsKept}
 use Rattle.flit_tree_heap.proofs.Growths.{Writes}
 use Rattle.flit_tree_heap.proofs.Images.{left_at, right_at, nowhere}
@@ -72,6 +73,17 @@ module _ (l : Layout) (layout : IsTreeLayout l) where
     (λ r x. omega (arith, e, value_word_at r, x)),
   )
 
+  -- a foreign row stands behind the fixed ones, and the start image doesn't reach it
+  pub foreign_row : (free : List ℕ) (o : Opening) (row : ℕ) → IsForeign l free o row →
+      (6 ≤ row) × (row ≤ l.rows + 5) × (Reaches l o.words row → ⊥)
+  foreign_row free o row f =
+      let p = (free_rows-contains l f.recovers.shape row).0 (subst (λ rows. Contains rows row) f.recovers.free_rows f.unreached) in (
+        rw layout.kind at p.0,
+        omega (arith, p.1, last_row),
+        (λ r. p.2 (subst (λ rows. Contains rows row)
+            (shapes_agree l o.words (Grown r.0) f.recovers.shape (layout.kind, r.1) f.recovers.lawful).1 r.2)),
+      )
+
 -- ---- the rows of a heap
 
 module _ (l : Layout) (free : List ℕ) (h : TreeHeap) (K : IsKept l free h) where
@@ -96,6 +108,13 @@ module _ (l : Layout) (free : List ℕ) (h : TreeHeap) (K : IsKept l free h) whe
   linked_given row (inr (inr (inl r))) c = absurd ((K.pool row c).unreached r)
   linked_given row (inr (inr (inr g))) c = g
 
+  -- a linked row isn't foreign
+  linked_ours : (row : ℕ) → IsLinked l h row → IsForeign l free h.opening row → ⊥
+  linked_ours row (inl e) f = omega (arith, e, (foreign_row l K.layout free h.opening row f).0)
+  linked_ours row (inr (inl e)) f = omega (arith, e, (foreign_row l K.layout free h.opening row f).0)
+  linked_ours row (inr (inr (inl r))) f = (foreign_row l K.layout free h.opening row f).2 r
+  linked_ours row (inr (inr (inr g))) f = f.outside (K.given row g)
+
   pub word_open : (row : ℕ) → IsLinked l h row → (w : ℕ) → IsWordOf l row w → IsOpen l free h w
   word_open row i w o = let n = row_range row i in record {
     within = word_within l K.layout row w (omega (arith, n.0)) n.1 o;
@@ -103,6 +122,10 @@ module _ (l : Layout) (free : List ℕ) (h : TreeHeap) (K : IsKept l free h) whe
         let m = pool_range r c in
         let e : row ≡ r = one_row l K.layout row r w (omega (arith, n.0)) n.1 (omega (arith, m.0)) m.1 o x in
         linked_given r (subst (IsLinked l h) e i) c;
+    ours = λ r f x.
+        let m = foreign_row l K.layout free h.opening r f in
+        let e : row ≡ r = one_row l K.layout row r w (omega (arith, n.0)) n.1 (omega (arith, m.0)) m.1 o x in
+        linked_ours r (subst (IsLinked l h) e i) f;
   }
 
   pub key_open : (row : ℕ) → IsLinked l h row → IsOpen l free h (row_word_of l row 0)

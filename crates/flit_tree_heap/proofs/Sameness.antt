@@ -55,10 +55,10 @@ module _ (l : Layout) (free : List ℕ) (h : TreeHeap) (K : IsKept l free h) (ws
   k = record h { words = ws; shadows = ss }
 
   open_up : (w : ℕ) → IsOpen l free h w → IsOpen l free k w
-  open_up w x = record { within = x.within; given = x.given }
+  open_up w x = record { within = x.within; given = x.given; ours = x.ours }
 
   open_down : (w : ℕ) → IsOpen l free k w → IsOpen l free h w
-  open_down w x = record { within = x.within; given = x.given }
+  open_down w x = record { within = x.within; given = x.given; ours = x.ours }
 
   rest_up : (w : ℕ) → IsOpen l free h w → IsAtRest h w → IsAtRest k w
   rest_up w o r = words w o ∙ r ∙ sym (shadows w o)

@@ -74,10 +74,10 @@ module _ (l : Layout) (free : List ℕ) (h : TreeHeap) (K : IsKept l free h) (w0
   rest_up w r = elim (shadow_cases w) [ inl e ↦ r ∙ sym e | inr e ↦ sym e ]
 
   open_up : (w : ℕ) → IsOpen l free h w → IsOpen l free k w
-  open_up w x = record { within = x.within; given = x.given }
+  open_up w x = record { within = x.within; given = x.given; ours = x.ours }
 
   open_down : (w : ℕ) → IsOpen l free k w → IsOpen l free h w
-  open_down w x = record { within = x.within; given = x.given }
+  open_down w x = record { within = x.within; given = x.given; ours = x.ours }
 
   -- ---- rows
 
