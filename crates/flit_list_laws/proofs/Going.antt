@@ -1,5 +1,5 @@
 -- What a call knows as its own machine goes on, by an event that leaves the heap.
-use Rattle.std.proofs.Common.{◌≡◌, ℕ, ◌==◌, ◌&&◌, ◌≤◌, ◌<◌, Bool, true, false, List, [], ◌∷◌, length, Option, Some, None, ◌⊎◌, refl, sym, ◌∙◌, ap, subst, if◌then◌else◌}
+use Rattle.std.proofs.Common.{◌≡◌, ℕ, ◌==◌, ◌&&◌, ◌≤◌, ◌<◌, Bool, true, false, List, [], ◌∷◌, length, Option, Some, None, ◌⊎◌, inl, inr, refl, sym, ◌∙◌, ap, subst, if◌then◌else◌}
 use Rattle.flit_words.specs.declared.layouts.Layout.{Layout}
 use Rattle.flit_words.specs.Words.{version_of, bare_of, is_tagged}
 use Rattle.flit_model.specs.Maps.{key_of}
@@ -38,7 +38,7 @@ use Rattle.flit_list_heap.specs.Links.{place_of, link_held, row_of, is_marked}
 use Rattle.flit_list_heap.specs.Keeping.{ListHeap, IsLinked, Kept}
 use Rattle.flit_list_heap.specs.Seeing.{Saw, Gone}
 use Rattle.flit_list_laws.specs.Walks.{Loaded, Walk}
-use Rattle.flit_list_laws.specs.Knowing.{row_after, IsAlone, AimsAt, HelpAt, Helped, LinkAt, MarkAt, Marked, TidyAt}
+use Rattle.flit_list_laws.specs.Knowing.{row_after, IsAlone, AimsAt, HelpAt, Helps_to, Helped, LinkAt, MarkAt, Marked, TidyAt}
 use Rattle.flit_list_laws.specs.ListAnatomy.{machine_at, with_machine_at, with_exchange, with_take}
 use Rattle.flit_list_laws.specs.ListCrew.{ConfirmsOne, IsOfBack, KnowsAt}
 use Rattle.flit_list_laws.proofs.Reading as reading
@@ -189,7 +189,7 @@ module _ (l : Layout) (h : ListHeap) (me : Who) (w : Walk) (n : Loaded) (m k : H
   }
   help_on HasWon f = helped_on f
   help_on HasWritten f = helped_on f
-  help_on (HasLost found) f = tt
+  help_on (HasLost found) f = f
   help_on Other f = tt
 
   link_on : (part : Part) → LinkAt l h me w m part → LinkAt l h me w k part
@@ -328,24 +328,30 @@ module _ (l : Layout) (p : Place) (free : List ℕ) (h : ListHeap) (me : Who) (r
   steady_at (Ends m) told same f = f
   steady_at (Rests hand) told same f = absurd f
 
+  same_exchange : (x y : HeldExchange) → Works (Exchanges x) ≡ Works (Exchanges y) → x ≡ y
+  same_exchange x y e = cc
+
   -- its exchange is lost, and nothing is private
-  pub loses_at : (m k : HeldExchange) (found : ℕ) → exchange_part k.at ≡ HasLost found → IsAlone l me → (at : At) → machine_at at ≡ Works (Exchanges m) →
+  pub loses_at : (m k : HeldExchange) (found : ℕ) → exchange_part m.at ≡ ToWin → exchange_part k.at ≡ HasLost found → IsAlone l me → (at : At) →
+      machine_at at ≡ Works (Exchanges m) →
       KnowsAt l h me reply path w n at → KnowsAt l h me reply path w n (with_exchange at k)
-  loses_at m k found lost alone (Head x) e f = absurd (cc)
-  loses_at m k found lost alone (Next x) e f = absurd (cc)
-  loses_at m k found lost alone (Key x) e f = absurd (cc)
-  loses_at m k found lost alone (Confirming goal which x) e f = absurd (cc)
-  loses_at m k found lost alone (Help x) e f = (f.0, f.1, subst (HelpAt l h me w n k) (sym lost) tt)
-  loses_at m k found lost alone (Row x) e f = absurd (cc)
-  loses_at m k found lost alone (Words x) e f = absurd (cc)
-  loses_at m k found lost alone (RowValue x) e f = absurd (cc)
-  loses_at m k found lost alone (Link x) e f =
+  loses_at m k found part lost alone (Head x) e f = absurd (cc)
+  loses_at m k found part lost alone (Next x) e f = absurd (cc)
+  loses_at m k found part lost alone (Key x) e f = absurd (cc)
+  loses_at m k found part lost alone (Confirming goal which x) e f = absurd (cc)
+  loses_at m k found part lost alone (Help x) e f =
+      let stood : Helps_to l h me w n x = subst (HelpAt l h me w n x) (ap (λ y. exchange_part y.at) (same_exchange x m e) ∙ part) f.2 in
+      (f.0, f.1, subst (HelpAt l h me w n k) (sym lost) (elim stood.sure.stands.spot.saw.form.leads [ inl z ↦ inl z | inr y ↦ inr y.linked ]))
+  loses_at m k found part lost alone (Row x) e f = absurd (cc)
+  loses_at m k found part lost alone (Words x) e f = absurd (cc)
+  loses_at m k found part lost alone (RowValue x) e f = absurd (cc)
+  loses_at m k found part lost alone (Link x) e f =
       (f.0, subst (Rattle.flit_list_laws.specs.ListCrew.IsAloneIf l h me) (sym lost) alone, subst (LinkAt l h me w k) (sym lost) tt)
-  loses_at m k found lost alone (Mark x) e f = (f.0, f.1, f.2, subst (MarkAt l h me w n k) (sym lost) tt)
-  loses_at m k found lost alone (Tidy x) e f = (f.0, subst (TidyAt l h me w n k) (sym lost) tt)
-  loses_at m k found lost alone (Value x) e f = absurd (cc)
-  loses_at m k found lost alone (Ends x) e f = absurd (cc)
-  loses_at m k found lost alone (Rests hand) e f = absurd (cc)
+  loses_at m k found part lost alone (Mark x) e f = (f.0, f.1, f.2, subst (MarkAt l h me w n k) (sym lost) tt)
+  loses_at m k found part lost alone (Tidy x) e f = (f.0, subst (TidyAt l h me w n k) (sym lost) tt)
+  loses_at m k found part lost alone (Value x) e f = absurd (cc)
+  loses_at m k found part lost alone (Ends x) e f = absurd (cc)
+  loses_at m k found part lost alone (Rests hand) e f = absurd (cc)
 
   -- it draws a row
   pub draws_at : (m k : HeldTake) (at : At) → machine_at at ≡ Takes m → KnowsAt l h me reply path w n at → KnowsAt l h me reply path w n (with_take at k)

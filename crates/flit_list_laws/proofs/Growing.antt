@@ -136,7 +136,7 @@ module _ (l : Layout) (h : ListHeap) (me : Who) (ns : List Dependency) (ss : Lis
   help_at w n m ToWin f = helps_to w n m f
   help_at w n m HasWon f = helped w m f
   help_at w n m HasWritten f = helped w m f
-  help_at w n m (HasLost found) f = tt
+  help_at w n m (HasLost found) f = f
   help_at w n m Other f = tt
 
   pub link_at : (w : Walk) (m : HeldExchange) (part : Part) → LinkAt l h me w m part → LinkAt l h you w m part

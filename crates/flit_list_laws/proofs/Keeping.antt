@@ -168,7 +168,7 @@ module _ (l : Layout) (lists : IsOfLists l) (p : Place) (free : List ℕ) where
       served = subst (IsServed l) (sym further.call) f.served;
       walk = f.walk;
       next = f.next;
-      at = going.loses_at l p free h you op.reply op.path f.walk f.next m n found lost (λ w. further.private w (none_private me none w)) op.at at
+      at = going.loses_at l p free h you op.reply op.path f.walk f.next m n found part lost (λ w. further.private w (none_private me none w)) op.at at
           (others.more_at l h me you further op.reply op.path f.walk f.next op.at f.at);
     };
     writes = λ h me you op m is further at stage back f. record {

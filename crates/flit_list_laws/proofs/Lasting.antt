@@ -186,7 +186,7 @@ module _ (l : Layout) (free : List ℕ) (h k : ListHeap) (who : Option ℕ) (me 
   help_at w n m ToWin f = helps_to w n m f
   help_at w n m HasWon f = helped w m f
   help_at w n m HasWritten f = helped w m f
-  help_at w n m (HasLost found) f = tt
+  help_at w n m (HasLost found) f = elim f [ inl z ↦ inl z | inr is ↦ inr (seen.linked_lasts l who h k goes (row_after w) is) ]
   help_at w n m Other f = tt
 
   -- what the words of an own row hold stays

@@ -165,13 +165,17 @@ module _ (l : Layout) (h : ListHeap) (me : Who) where
     pub linked : IsLinked l h (row_after w)
     pub further : (row_of m.to ≡ 0) ⊎ (IsLinked l h (row_of m.to) × (key_in l h.words (row_after w) < key_in l h.words (row_of m.to)))
 
+  -- the link leads nowhere, or to a linked row
+  abbrev pub LeadsOn : Walk → Type 0
+  LeadsOn w = (row_after w ≡ 0) ⊎ IsLinked l h (row_after w)
+
   abbrev pub HelpAt : Walk → Loaded → HeldExchange → Part → Type 0
   HelpAt w n m (ToRead word) = Unit {0}
   HelpAt w n m (HasRead word raw) = Unit {0}
   HelpAt w n m ToWin = Helps_to w n m
   HelpAt w n m HasWon = Helped w m
   HelpAt w n m HasWritten = Helped w m
-  HelpAt w n m (HasLost found) = Unit {0}
+  HelpAt w n m (HasLost found) = LeadsOn w
   HelpAt w n m Other = Unit {0}
 
   pub record Links_to (w : Walk) (m : HeldExchange) : Type 0 where

@@ -8,6 +8,7 @@ pub mod Keys
 pub mod Steady
 pub mod Resuming
 pub mod OwnStores
+pub mod Beside
 pub mod Running
 pub mod Ending
 pub mod Exchanging

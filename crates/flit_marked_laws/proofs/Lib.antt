@@ -14,4 +14,5 @@ pub mod Resting
 pub mod Links
 pub mod Crashes
 pub mod Showing
+pub mod Foreign
 pub mod MarkedLists

@@ -33,7 +33,7 @@ use Rattle.flit_rows.specs.declared.take_row.Taking.{Taking}
 use Rattle.flit_rows.specs.declared.take_row.Taking.TheVariants.{Draws, Ended as Take_ended}
 use Rattle.flit_rows.specs.Taking.{take_asks}
 use Rattle.flit_runs.specs.Workings.{writing_at, Confirms, Exchanges, Stores, Completes}
-use Rattle.flit_runs.specs.Worlds.{HasHad, writings}
+use Rattle.flit_runs.specs.Worlds.{Actor, HasHad, writings}
 use Rattle.flit_runs.specs.Soundness.{MayWriteBack, Knows, EvictKnows, confirm_owed, exchange_owed, store_owed}
 use Rattle.flit_runs.proofs.ExchangeSteps.{around}
 use Rattle.flit_runs.proofs.Growth.{shadow-after}
@@ -45,7 +45,7 @@ use Rattle.flit_structure.specs.Moments.{Moment, busy, sweeper, with_workers}
 use Rattle.flit_structure.specs.Meanings.{asks, asked_by}
 use Rattle.flit_structure.specs.Lawful.{HoldsWith}
 use Rattle.flit_crew.specs.Machines.{machine_asks}
-use Rattle.flit_crew.specs.Crews.{Crew}
+use Rattle.flit_crew.specs.Crews.{Crew, stranger_of}
 use Rattle.flit_crew.specs.Obligations.{Keeps}
 use Rattle.flit_crew.proofs.Acting.{Split}
 use Rattle.flit_crew.proofs.Moving.{h, mine, is_sound}
@@ -175,10 +175,14 @@ module _ (l : Layout) (p : Place) (free : List ℕ) (chains : IsOfLists l) where
         split : Split C l p free (h C l p free keeps M a (sweeper name number m) b holds.0) a (sweeper name number m) b holds.0.actors
         split = mine C l p free keeps M a (sweeper name number m) b holds.0
 
+        -- those before it in the world
+        front : List Actor
+        front = stranger_of holds.0.stranger ∷ split.before
+
         known : EvictKnows (λ x. false) M.state m.at m.word
-        known = subst (Knows p (λ x. false) M.state (around (writings split.before) (writing_at split.actor.at) (writings split.behind)) split.actor.private)
+        known = subst (Knows p (λ x. false) M.state (around (writings front) (writing_at split.actor.at) (writings split.behind)) split.actor.private)
             split.mine.at
-            (safe p (λ x. false) M.state split.before split.actor split.behind (is_sound C l p free keeps M a (sweeper name number m) b holds.0)).knows
+            (safe p (λ x. false) M.state front split.actor split.behind (is_sound C l p free keeps M a (sweeper name number m) b holds.0)).knows
 
         by_at : (at : Evicting) → m.at ≡ at → evict_asks at m ≡ Some (Persist word kept) → Mine
         by_at Evict_reads is k = absurd (cc)

@@ -137,6 +137,10 @@ module _ {G Op : Type 0} (A : Anatomy Op) (later : Option ℕ → Heap G → Hea
       given = k.given;
       ghost = k.ghost;
       actors = k.actors;
+      opening = k.opening;
+      pool_is = k.pool_is;
+      stranger = k.stranger;
+      outside = k.outside;
       accepted = k.accepted;
       pool = k.pool;
       words = k.words;

@@ -1,27 +1,37 @@
--- What a list or a hash table keeps besides the laws of a structure: which rows its exchanges link and mark, whose marks
--- they are, and what a crash image shows of them.
-use Rattle.std.specs.Prelude.{◌≡◌, ◌⊎◌, ℕ, ◌==◌, ◌≤◌, ◌&&◌, Bool, true, false, List, ◌∷◌, ◌++◌, Option, Some, None, Contains, if◌then◌else◌}
+-- What a list or a hash table keeps besides the laws of a structure: that others may write rows beside its own; which rows
+-- its exchanges link and mark, whose marks they are, and what a crash image shows of them.
+use Rattle.std.specs.Prelude.{◌≡◌, ◌⊎◌, ℕ, ◌+◌, ◌==◌, ◌≤◌, ◌&&◌, Bool, true, false, List, ◌∷◌, ◌++◌, Option, Some, None, Contains, if◌then◌else◌}
 use Rattle.flit_words.specs.declared.layouts.Layout.{Layout}
 use Rattle.flit_words.specs.Layouts.{last_row_of}
-use Rattle.flit_words.specs.Words.{value_of}
+use Rattle.flit_words.specs.Words.{is_tagged, value_of, version_of}
 use Rattle.flit_words.specs.Links.{link_of}
-use Rattle.flit_model.specs.States.{State, word_at}
+use Rattle.flit_model.specs.States.{State, word_at, shadow_at}
 use Rattle.flit_model.specs.Effects.{after}
 use Rattle.flit_model.specs.Lists.{link_in, next_word, is_removed}
 use Rattle.flit_model.specs.Settling.{Progress, taken_updates}
-use Rattle.flit_model.specs.CrashImages.{crash_image}
+use Rattle.flit_model.specs.CrashImages.{crash_image, write_back}
 use Rattle.flit_model.specs.declared.events.Event.{Event}
 use Rattle.flit_model.specs.declared.events.Event.TheVariants.{Load, ReadTag, Raise, Lower, Exchange, Persist, Store, Draw}
 use Rattle.flit_model.specs.declared.calls.Call.{Call}
 use Rattle.flit_model.specs.declared.calls.Call.TheVariants.{Insert, Remove, Contains as Contains_call, Get}
 use Rattle.flit_model.specs.declared.calls.Entry.{Entry}
+use Rattle.flit_model.specs.declared.calls.Tally.{Tally}
 use Rattle.flit_structure.specs.declared.workers.Doing.{Doing}
 use Rattle.flit_structure.specs.declared.workers.Doing.TheVariants.{Idle, Busy, Evicting}
 use Rattle.flit_structure.specs.declared.workers.Worker.{Worker}
-use Rattle.flit_structure.specs.Moments.{Moment, update_of, busy, with_workers}
+use Rattle.flit_structure.specs.Moments.{Opening, Moment, IsAmong, update_of, busy, with_workers}
 use Rattle.flit_structure.specs.Meanings.{Meaning, asked_by, Happens, hiring, reordering, beginning, finishing, evicting, evicted, making, writing_back}
 use Rattle.flit_structure.specs.Lawful.{HoldsWith, is_insert}
+use Rattle.flit_crew.specs.Heaps.{IsForeign, IsWordOf}
 use Rattle.flit_list_heap.specs.Keeping.{IsReached}
+
+-- a Store of the next version, untagged, to a word of a foreign row whose version is persistent
+pub record MayBeStored (l : Layout) (o : Opening) (m : State) (row word to : ℕ) : Type 0 where
+  pub foreign : IsForeign l o.free o row
+  pub of : IsWordOf l row word
+  pub persistent : version_of (word_at m word) ≡ version_of (shadow_at m word)
+  pub untagged : is_tagged to ≡ false
+  pub next : version_of to ≡ version_of (word_at m word) + 1
 
 -- a row's next word is marked with this name
 pub record IsMarkedBy (l : Layout) (words : List ℕ) (row name : ℕ) : Type 0 where
@@ -71,6 +81,16 @@ abbrev pub or_first : Option Entry → Option Entry → Option Entry
 or_first None later = later
 or_first (Some e) later = Some e
 
+module _ {Op : Type 0} (meaning : Meaning Op) where
+  -- `holds` is kept; each call under way stays licensed and has as many events to go
+  pub record GoesOn (M N : Moment Op) : Type 0 where
+    pub holds : meaning.holds N
+    pub licensed : (name number : ℕ) (op : Op) (call : Call) (begun : Option ℕ) (start : Tally) (made : ℕ) →
+        IsAmong M.workers (busy name number op call begun) →
+        meaning.licensed M op start made → meaning.licensed N op start made
+    pub to_go : (name number : ℕ) (op : Op) (call : Call) (begun : Option ℕ) → IsAmong M.workers (busy name number op call begun) →
+        meaning.to_go N.state op ≡ meaning.to_go M.state op
+
 module _ {Op : Type 0} (meaning : Meaning Op) (row_of : Op → ℕ) where
   -- the update that such a call makes by the event that it asks, where by that it takes effect on this row
   abbrev pub update_in : (ℕ → Call → Bool) → ℕ → ℕ → ℕ → Doing Op → Option Entry
@@ -103,6 +123,12 @@ module _ {Op : Type 0} (meaning : Meaning Op) (row_of : Op → ℕ) where
 
   -- The laws. By row_of an operation tells the row that its Exchange links or marks.
   pub record MarkedLaws : Type 0 where
+    -- others may store words of foreign rows, and write them back
+    pub stored_foreign : (M : Moment Op) (row word to : ℕ) → meaning.holds M → MayBeStored meaning.layout M.opening M.state row word to →
+        GoesOn meaning M (record M { state = after M.state (Store word to) })
+    pub persisted_foreign : (M : Moment Op) (row word : ℕ) → meaning.holds M → IsForeign meaning.layout M.opening.free M.opening row →
+        IsWordOf meaning.layout row word →
+        GoesOn meaning M (record M { state = after M.state (write_back M.state word) })
     -- the Exchange by which an insert takes effect links the row, and that of a remove marks the row's next word, with values
     -- with the worker's name
     pub links_it : (M : Moment Op) (a : List (Worker Op)) (name number : ℕ) (op : Op) (call : Call) (begun : Option ℕ) (b : List (Worker Op))
