@@ -39,17 +39,14 @@ impl<P: Drop> List<P> {
 
     /// The word at this place among those of the rows. A row is below 2^22, as each link is, and perhaps none of the
     /// layout.
+    #[tactic(auto, using(crate::proofs::Parts::two_parts))]
     fn word(&self, row: u32, part: u32) -> u32
         requires row { row < 2 ^ 22 }
         requires part { part < 2 }
         ensures is { result ≡ row_word_of self.now.layout row part }
         ensures below { result < 2 ^ 31 }
     {
-        let parts = match self.layout.kind {
-            Kind::List | Kind::Hash => 2,
-            Kind::Tree => 3,
-        };
-        self.layout.buckets + parts * row.saturating_sub(1) + part
+        self.layout.buckets + 2 * row.saturating_sub(1) + part
     }
 
     /// A row's key word.

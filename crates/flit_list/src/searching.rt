@@ -13,6 +13,7 @@ use flit_words::Word;
 impl<P: Placement + Drop> List<P> {
     /// The row that `pred` leads to is looked at; where it leads to none, the key is absent.
     #[tactic(auto, using(flit_list_steps::specs::Phases::same_hand), unfolding(flit_list_steps::specs::Steps::looks))]
+    #[inline(always)]
     pub(crate) fn looks(&self, op: &mut ListOp)
         requires { FitsLink (hand_at op.old.at) }
         ensures { op.new ≡ looks self.now.layout (P.place self.now.place) self.now.pool

@@ -52,7 +52,8 @@ fn words_of_table(alloc: Global, image: &[u64], slots: u32) -> Result<Vec<u64>, 
     ensures { IfOk result (λ v. v.items ≡ 0 ∷ (image.now
         ++ (image.now ++ (replicate slots 0 ++ 0 ∷ [])))) }
 {
-    let mut words = Vec::new(alloc);
+    let count = image.len().saturating_mul(2).saturating_add(slots as usize);
+    let mut words = Vec::with_capacity(alloc, count.saturating_add(2))?;
     words.push(0)?;
     words.extend_from_slice(image)?;
     words.extend_from_slice(image)?;

@@ -38,6 +38,7 @@ impl<S: Structure> Model for Running<S> {
 
 impl<S: Structure> Running<S> {
     // Makes one event of the pass's worker, which may begin something with it.
+    #[inline(always)]
     fn step_as<J: Starting>(
         &self,
         seat: &mut Seat<u64, View<S, S::Op>>,
@@ -88,6 +89,7 @@ impl<S: Structure> Running<S> {
     }
 
     // The same, and what it begins is told.
+    #[inline(always)]
     pub(crate) fn step(
         &self,
         seat: &mut Seat<u64, View<S, S::Op>>,
