@@ -3,4 +3,4 @@
 
 mod recovering;
 
-pub use recovering::recover_lawful;
+pub use recovering::{recover_lawful, recover_lawful_owned};

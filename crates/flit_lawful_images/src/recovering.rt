@@ -4,7 +4,7 @@ ghost use Rattle.flit_model.specs.Recovery.{IsRecovery, IsWhole, layout_of};
 ghost use Rattle.flit_lawful_images.specs.Maps.{IsMapOf, HasPairsOf};
 
 use flit_model::Image;
-use flit_recover::{Damage, Recovered, recover};
+use flit_recover::{Damage, Recovered, recover, recover_owned};
 use flit_words::NoMemory;
 use std::alloc::Global;
 
@@ -30,6 +30,21 @@ pub fn recover_lawful(alloc: Global, image: &Image) -> Result<Recovered, NoMemor
 {
     match recover(alloc, image) {
         Ok(found) => Ok(found),
+        Err(damage) => Err(memory_alone(damage)),
+    }
+}
+
+/// The same of an image that is given away: its words go into the answer, and none is copied.
+pub fn recover_lawful_owned(alloc: Global, image: Image) -> Result<Recovered, NoMemory>
+    requires whole { IsWhole image }
+    requires lawful { (m : Map) × IsMapOf image m }
+    ensures recovery { IfOk result (λ r. IsRecovery (layout_of image) image.words.items r.keys.items
+        r.values.items r.free.items) }
+    ensures pairs { IfOk result (λ r. (m : Map) → IsMapOf image m → HasPairsOf m r) }
+    ensures words { IfOk result (λ r. r.image.words.items ≡ image.words.items) }
+{
+    match recover_owned(alloc, image) {
+        Ok(recovered) => Ok(recovered),
         Err(damage) => Err(memory_alone(damage)),
     }
 }

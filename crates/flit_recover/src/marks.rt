@@ -71,7 +71,7 @@ impl Reached {
             (range_with_len (first_row_of layout.now.kind) layout.now.rows)) }
         ensures err { IfErr result (λ d. d ≡ Damage.NoMemory) }
     {
-        let mut free = Vec::new(alloc);
+        let mut free = Vec::with_capacity(alloc, layout.rows as usize)?;
         for row in layout.first_row()..layout.last_row() + 1 {
             if !self.marks[row as usize] {
                 free.push(row)?;

@@ -204,7 +204,7 @@ fn initial_words(alloc: Global, layout: &Layout) -> Result<Vec<u64>, AllocError>
     requires { Accepted layout.now }
     ensures { IfOk result (λ w. w.items ≡ fresh_words layout.now) }
 {
-    let mut words = Vec::new(alloc);
+    let mut words = Vec::with_capacity(alloc, layout.words() as usize)?;
     for word in 0..layout.words() {
         words.push(u64::from(layout.initial(word)))?;
     }
@@ -216,7 +216,7 @@ fn all_rows(alloc: Global, layout: &Layout) -> Result<Vec<u32>, AllocError>
     ensures { IfOk result (λ r. r.items ≡ range_with_len (first_row_of layout.now.kind)
         layout.now.rows) }
 {
-    let mut rows = Vec::new(alloc);
+    let mut rows = Vec::with_capacity(alloc, layout.rows as usize)?;
     for row in layout.first_row()..layout.last_row() + 1 {
         rows.push(row)?;
     }

@@ -5,7 +5,7 @@ ghost use Rattle.flit_histories.specs.Reached.{IsStart};
 ghost use Rattle.flit_run_callers.specs.Crashes.{AreTurnsOf, LeavesHeadline};
 
 use flit_headline::runs_keep_headline;
-use flit_lawful_images::recover_lawful;
+use flit_lawful_images::recover_lawful_owned;
 use flit_model::{Ahead, Entry, Work};
 use flit_recover::Recovered;
 use flit_sched::Sched;
@@ -56,6 +56,7 @@ pub fn crash_after<S: Structure>(
     give_each(&mut sched, workers);
     let history = sched.history(alloc, ahead)?;
     let image = sched.image(alloc, ahead)?;
-    let found = recover_lawful(alloc, &image)?;
+    drop(sched);
+    let found = recover_lawful_owned(alloc, image)?;
     Ok(Crashed { history, found })
 }

@@ -10,8 +10,8 @@ give_each-requires g c =
     workers_within (g.S.Structure.meaning c.args.structure) c.args.start.now c.args.work.items c.args.workers.now c.in_ok-sched.sched.run
     c.in_ok-sched.ensures.run c.requires.workers
 
-pub recover_lawful-requires-clause-whole : goal.recover_lawful-requires-clause-whole
-recover_lawful-requires-clause-whole g c =
+pub recover_lawful_owned-requires-clause-whole : goal.recover_lawful_owned-requires-clause-whole
+recover_lawful_owned-requires-clause-whole g c =
     let turns = subst (λ s. AreTurnsOf (g.S.Structure.meaning s) c.args.workers.now c.in_ok-sched.sched.run c.give_each.new.sched.run)
     c.in_ok-sched.ensures.structure c.give_each.ensures.turns in
     let shape = subst (λ s. IsImageOf (g.S.Structure.meaning s).layout c.in_ok-image.image)
@@ -20,8 +20,8 @@ recover_lawful-requires-clause-whole g c =
     c.args.workers.now c.in_ok-sched.sched.run c.give_each.new.sched.run c.in_ok-sched.ensures.run turns (picks_of c.args.ahead.now)
     c.in_ok-image.image shape c.in_ok-image.ensures.words).0
 
-pub recover_lawful-requires-clause-lawful : goal.recover_lawful-requires-clause-lawful
-recover_lawful-requires-clause-lawful g c =
+pub recover_lawful_owned-requires-clause-lawful : goal.recover_lawful_owned-requires-clause-lawful
+recover_lawful_owned-requires-clause-lawful g c =
     let turns = subst (λ s. AreTurnsOf (g.S.Structure.meaning s) c.args.workers.now c.in_ok-sched.sched.run c.give_each.new.sched.run)
     c.in_ok-sched.ensures.structure c.give_each.ensures.turns in
     let shape = subst (λ s. IsImageOf (g.S.Structure.meaning s).layout c.in_ok-image.image)
