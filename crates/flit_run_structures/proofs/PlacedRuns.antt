@@ -1,11 +1,12 @@
 -- The works of a trace can be run over its placement, on the structure that was made for its kind; and what was told of them is
 -- what is wanted of the trace.
-use Rattle.std.proofs.Common.{◌≡◌, ℕ, List, length, refl, sym, subst}
+use Rattle.std.proofs.Common.{◌≡◌, ℕ, List, sym, subst}
 use Rattle.flit_words.specs.declared.layouts.Kind.{Kind}
 use Rattle.flit_words.specs.declared.layouts.Kind.TheVariants.{List as List_kind, Hash, Tree}
 use Rattle.flit_words.specs.declared.layouts.Layout.{Layout}
 use Rattle.flit_model.specs.declared.found.Recovered.{Recovered}
 use Rattle.flit_place.specs.Tags.{Place}
+use Rattle.flit_structure.specs.Meanings.{Meaning}
 use Rattle.flit_trace.specs.SeenTraces.{SeenTrace}
 use Rattle.flit_trace.specs.declared.heads.Head.{Head}
 use Rattle.flit_list_structure.specs.ListStructure.{lists}
@@ -14,17 +15,6 @@ use Rattle.flit_run_runs.specs.Plays.{CanRun}
 use Rattle.flit_structures.specs.Starts.{StartsSeen}
 use Rattle.flit_structures.specs.Structures.{placing_of, structure_of, structure_in, IsPlayable}
 use Rattle.flit_run_structures.specs.Runs.{TracesRun, RunsSeen}
-
--- the structure of a kind has its layout, and as much room as rows are free
-pub layout_is : (kind : Kind) (l : Layout) (p : Place) (free : List ℕ) → (structure_of l p kind free).meaning.layout ≡ l
-layout_is List_kind l p free = refl
-layout_is Hash l p free = refl
-layout_is Tree l p free = refl
-
-pub room_is : (kind : Kind) (l : Layout) (p : Place) (free : List ℕ) → (structure_of l p kind free).meaning.room ≡ length free
-room_is List_kind l p free = refl
-room_is Hash l p free = refl
-room_is Tree l p free = refl
 
 -- the structure of the head that is seen has the trace's works
 pub runs_over : (trace : SeenTrace) (start : Recovered) → IsPlayable trace.head → StartsSeen trace start → TracesRun → (p : Place) →
@@ -37,27 +27,23 @@ runs_over trace start playable starts runs p placed bytes t is shows =
 
 -- what can be run over a placement can be run on a structure that was made of the same
 module _ (trace : SeenTrace) (start : Recovered) (l m : Layout) (p q : Place) (free rows : List ℕ) where
-  list_at : m ≡ l → q ≡ p → rows ≡ free → RunsSeen (lists l p free) start trace → RunsSeen (lists m q rows) start trace
-  list_at layout place pool runs =
-      subst (λ x. RunsSeen (lists m q x) start trace) (sym pool)
-      (subst (λ x. RunsSeen (lists m x free) start trace) (sym place) (subst (λ x. RunsSeen (lists x p free) start trace) (sym layout) runs))
-
-  tree_at : m ≡ l → q ≡ p → rows ≡ free → RunsSeen (trees l p free) start trace → RunsSeen (trees m q rows) start trace
-  tree_at layout place pool runs =
-      subst (λ x. RunsSeen (trees m q x) start trace) (sym pool)
-      (subst (λ x. RunsSeen (trees m x free) start trace) (sym place) (subst (λ x. RunsSeen (trees x p free) start trace) (sym layout) runs))
+  same_at : {Op : Type 0} (made : Layout → Place → List ℕ → Meaning Op) → m ≡ l → q ≡ p → rows ≡ free → RunsSeen (made l p free) start trace →
+      RunsSeen (made m q rows) start trace
+  same_at made layout place pool runs =
+      subst (λ x. RunsSeen (made m q x) start trace) (sym pool)
+      (subst (λ x. RunsSeen (made m x free) start trace) (sym place) (subst (λ x. RunsSeen (made x p free) start trace) (sym layout) runs))
 
   pub on_list : (kind : Kind) → kind ≡ List_kind → m ≡ l → q ≡ p → rows ≡ free → RunsSeen (structure_of l p kind free).meaning start trace →
       RunsSeen (lists m q rows) start trace
   on_list kind is layout place pool runs =
-      list_at layout place pool (subst (λ k. RunsSeen (structure_of l p k free).meaning start trace) is runs)
+      same_at lists layout place pool (subst (λ k. RunsSeen (structure_of l p k free).meaning start trace) is runs)
 
   pub on_hash : (kind : Kind) → kind ≡ Hash → m ≡ l → q ≡ p → rows ≡ free → RunsSeen (structure_of l p kind free).meaning start trace →
       RunsSeen (lists m q rows) start trace
   on_hash kind is layout place pool runs =
-      list_at layout place pool (subst (λ k. RunsSeen (structure_of l p k free).meaning start trace) is runs)
+      same_at lists layout place pool (subst (λ k. RunsSeen (structure_of l p k free).meaning start trace) is runs)
 
   pub on_tree : (kind : Kind) → kind ≡ Tree → m ≡ l → q ≡ p → rows ≡ free → RunsSeen (structure_of l p kind free).meaning start trace →
       RunsSeen (trees m q rows) start trace
   on_tree kind is layout place pool runs =
-      tree_at layout place pool (subst (λ k. RunsSeen (structure_of l p k free).meaning start trace) is runs)
+      same_at trees layout place pool (subst (λ k. RunsSeen (structure_of l p k free).meaning start trace) is runs)

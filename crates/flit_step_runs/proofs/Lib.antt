@@ -7,3 +7,5 @@ pub mod ToldLaws
 pub mod HeldScripts
 pub mod MergedLines
 pub mod OrderedLines
+pub mod CountedLines
+pub mod SummaryLaws

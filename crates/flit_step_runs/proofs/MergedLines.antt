@@ -109,7 +109,7 @@ module _ {Op : Type 0} (r : Run Op) where
   abbrev pub part : List ItemLine → List ItemLine → ℕ → List (ℕ × Line)
   part front ls v = numbered_script r v (lines_by v front) (script_of ls v)
 
-  item_stripped : (number worker before : ℕ) (i : Item) → map (λ l. l.1) (numbered_item r number worker before i) ≡ told_item r worker before i
+  pub item_stripped : (number worker before : ℕ) (i : Item) → map (λ l. l.1) (numbered_item r number worker before i) ≡ told_item r worker before i
   item_stripped number worker before (Call_item call) = refl
   item_stripped number worker before (Evict_item word) = refl
 
@@ -155,7 +155,7 @@ module _ {Op : Type 0} (r : Run Op) where
       count_by-append (λ i. i.worker == v) front (l ∷ [])
       ∙ ap (λ n. lines_by v front + n) (count_by-cons (λ i. i.worker == v) l [] ∙ ap (λ y. cond y 1 0 + 0) e)
 
-  other_part : (front ls : List ItemLine) (l : ItemLine) (v : ℕ) → (v == l.worker) ≡ false → part front (l ∷ ls) v ≡ part (front ++ l ∷ []) ls v
+  pub other_part : (front ls : List ItemLine) (l : ItemLine) (v : ℕ) → (v == l.worker) ≡ false → part front (l ∷ ls) v ≡ part (front ++ l ∷ []) ls v
   other_part front ls l v e =
       let no : (l.worker == v) ≡ false = ne_eqb l.worker v (λ is. eqb-false v l.worker e (sym is)) in
       let rest = filter (λ i. i.worker == v) ls in
@@ -164,7 +164,7 @@ module _ {Op : Type 0} (r : Run Op) where
       ap (λ b. numbered_script r v (lines_by v front) (map (λ i. (i.line, i.item)) (cond b (l ∷ rest) rest))) no
       ∙ ap (λ n. numbered_script r v n (script_of ls v)) same
 
-  own_part : (front ls : List ItemLine) (l : ItemLine) →
+  pub own_part : (front ls : List ItemLine) (l : ItemLine) →
       part front (l ∷ ls) l.worker ≡ numbered_item r l.line l.worker (lines_by l.worker front) l.item ++ part (front ++ l ∷ []) ls l.worker
   own_part front ls l =
       let v = l.worker in

@@ -96,7 +96,7 @@ module _ {Op : Type 0} (r : Run Op) where
       (h.scripts a (record { least = some; most = omega (arith, le) }))
       ∙ ap (λ xs. part r [] t.items a ++ xs) (scripts_same trace t h (a + 1) n (omega arith) (omega (arith, le)))
 
-  named : (l : Layout) (ls : List ItemLine) → AllByRecursion (IsRightLine l) ls → AllByRecursion (λ i. (1 ≤ i.worker) × (i.worker ≤ l.workers)) ls
+  pub named : (l : Layout) (ls : List ItemLine) → AllByRecursion (IsRightLine l) ls → AllByRecursion (λ i. (1 ≤ i.worker) × (i.worker ≤ l.workers)) ls
   named l [] h = tt
   named l (i ∷ is) h = ((h.0.0, h.0.1), named l is h.1)
 

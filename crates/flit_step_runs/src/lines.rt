@@ -18,7 +18,7 @@ use flit_words::NoMemory;
 use std::alloc::Global;
 
 /// What became of an item of a worker, counted from 0; of an Evict it is that of a call that nobody began.
-fn outcome_in<S: Structure>(sched: &Sched<S>, worker: u32, item: u32) -> Outcome
+pub(crate) fn outcome_in<S: Structure>(sched: &Sched<S>, worker: u32, item: u32) -> Outcome
     requires worker { HasWorker sched.now.run worker }
     requires item { OfWorker sched.now.run worker (λ p. item < length p.items) }
     ensures { result ≡ outcome_in sched.now.run worker item }
@@ -86,7 +86,7 @@ fn numbered_lines<S: Structure>(
         (range_with_len 1 trace.now.head.layout.workers)) }
 {
     let workers = trace.head().layout.workers;
-    let mut told = Vec::new(alloc);
+    let mut told = Vec::with_capacity(alloc, trace.calls() as usize)?;
     for before in 0..workers {
         let worker = before + 1;
         push_script(sched, worker, trace.script(worker), &mut told)?;

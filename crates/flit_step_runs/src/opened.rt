@@ -13,22 +13,24 @@ use flit_turns::Events;
 use flit_words::NoMemory;
 use std::alloc::Global;
 
-/// Opens a run of a trace's works at what recovery found, and plays the trace on it. The error is NoMemory alone.
+/// Opens a run of a trace's works at what recovery found, which it lets go then, and plays the trace on it. The error is
+/// NoMemory alone.
 pub fn run_of<S: Structure>(
     alloc: Global,
     structure: S,
-    start: &Recovered,
+    start: Recovered,
     trace: &Trace,
     events: &mut Events,
 ) -> Result<Sched<S>, NoMemory>
-    requires { CanPlaySeen (S.meaning structure) start.now trace.now }
+    requires { CanPlaySeen (S.meaning structure) start trace.now }
     ensures structure { IfOk result (λ r. r.structure ≡ structure) }
     ensures played { IfOk result (λ r. (t : Content) → Shows trace.now t →
-        CanPlay (S.meaning structure) start.now t → IsPlayed (S.meaning structure) t start.now
+        CanPlay (S.meaning structure) start t → IsPlayed (S.meaning structure) t start
         events.old.kept r.run events.old.shown.items events.new.shown.items) }
 {
     let works = works_of(alloc, trace)?;
-    let mut sched = Sched::open(alloc, structure, start, works)?;
+    let mut sched = Sched::open(alloc, structure, &start, works)?;
+    drop(start);
     play(&mut sched, trace, events)?;
     Ok(sched)
 }

@@ -22,16 +22,16 @@ use std::alloc::Global;
 pub fn report_of_run<S: Structure>(
     alloc: Global,
     structure: S,
-    start: &Recovered,
+    start: Recovered,
     trace: &Trace,
     shows: bool,
     summary: bool,
 ) -> Result<Report, NoMemory>
-    requires { CanPlaySeen (S.meaning structure) start.now trace.now }
+    requires { CanPlaySeen (S.meaning structure) start trace.now }
     ensures summary { IfOk result (λ r. r.summary ≡ summary) }
     ensures report { IfOk result (λ r. (t : Content) → Shows trace.now t →
-        CanPlay (S.meaning structure) start.now t →
-        IsReportOf (S.meaning structure) t shows start.now (content_of r)) }
+        CanPlay (S.meaning structure) start t →
+        IsReportOf (S.meaning structure) t shows start (content_of r)) }
 {
     plans_are_runs::<S>();
     let mut events = Events {
@@ -40,6 +40,6 @@ pub fn report_of_run<S: Structure>(
     };
     let sched = run_of(alloc, structure, start, trace, &mut events)?;
     let lines = lines_of(alloc, &sched, trace)?;
-    let report = tell(alloc, &sched, trace, lines, events.shown, summary)?;
+    let report = tell(alloc, sched, trace, lines, events.shown, summary)?;
     Ok(report)
 }

@@ -4,7 +4,7 @@ ghost use Rattle.flit_sched.specs.Turns.{tally_in};
 ghost use Rattle.flit_step_reports.specs.StepReports.{version_of};
 ghost use Rattle.flit_step_runs.specs.Plays.{IsRunSeen, TellsRunSeen};
 
-use flit_lawful_images::recover_lawful;
+use flit_lawful_images::recover_lawful_owned;
 use flit_model::Tally;
 use flit_report::{Line, Report, Shown};
 use flit_sched::Sched;
@@ -46,29 +46,32 @@ pub fn count_rows(free: &[u32], rows: u32) -> u32
     free.len() as u32
 }
 
-/// The report of a run on which a trace was played, with these lines and events. The error is NoMemory alone.
+/// The report of a run on which a trace was played, with these lines and events. The run is let go before recovery looks at
+/// its image. The error is NoMemory alone.
 pub fn tell<S: Structure>(
     alloc: Global,
-    sched: &Sched<S>,
+    sched: Sched<S>,
     trace: &Trace,
     lines: Vec<Line>,
     events: Vec<Shown>,
     summary: bool,
 ) -> Result<Report, NoMemory>
-    requires { IsRunSeen (S.meaning sched.now.structure) trace.now sched.now.run }
+    requires { IsRunSeen (S.meaning sched.structure) trace.now sched.run }
     ensures summary { IfOk result (λ r. r.summary ≡ summary) }
     ensures events { IfOk result (λ r. r.events.items ≡ events.items) }
     ensures lines { IfOk result (λ r. r.lines.items ≡ lines.items) }
-    ensures tells { IfOk result (λ r. TellsRunSeen (S.meaning sched.now.structure) trace.now
-        sched.now.run (content_of r)) }
+    ensures tells { IfOk result (λ r. TellsRunSeen (S.meaning sched.structure) trace.now
+        sched.run (content_of r)) }
 {
     let layout = trace.head().layout;
     let ahead = trace.ahead();
-    let tallies = tallies_of(alloc, sched, layout.workers)?;
+    let tallies = tallies_of(alloc, &sched, layout.workers)?;
     let history = sched.history(alloc, ahead)?;
     let image = sched.image(alloc, ahead)?;
-    let found = recover_lawful(alloc, &image)?;
-    let free = count_rows(&found.free, image.rows);
+    drop(sched);
+    let rows = image.rows;
+    let found = recover_lawful_owned(alloc, image)?;
+    let free = count_rows(&found.free, rows);
     Ok(Report {
         summary,
         version: version_of(&layout),

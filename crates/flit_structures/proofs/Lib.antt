@@ -7,4 +7,5 @@ pub mod PlacedReports
 pub mod WantedTexts
 pub mod RefusalLaws
 pub mod RightTraceLaws
+pub mod CompleteLaws
 pub mod KindLaws

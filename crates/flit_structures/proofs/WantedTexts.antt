@@ -16,12 +16,13 @@ use Rattle.flit_sched.specs.Views.{picks_of}
 use Rattle.flit_step_reports.specs.StepLaws.{PlansAreRuns}
 use Rattle.flit_step_reports.specs.StepReports.{StartsAt, IsReportOf}
 use Rattle.flit_step_sentences.specs.Sentences.{SaysHeadline}
+use Rattle.flit_step_sentences.specs.StepTexts.{IsStepText}
 use Rattle.flit_step_runs.specs.Plays.{CanPlay, IsPlayed}
 use Rattle.flit_step_runs.proofs.TellingLaws.{picks_seen}
 use Rattle.flit_report.specs.Content.{Content as Told}
 use Rattle.flit_report.specs.declared.content.Shown.{Shown}
 use Rattle.flit_turns.specs.Lines.{shown_of}
-use Rattle.flit_structures.specs.Runs.{IsToldOf, IsToldSeen, IsImageOfRun}
+use Rattle.flit_structures.specs.Runs.{IsReportText, IsToldOf, IsToldSeen, IsImageOfRun}
 use Rattle.flit_structures.specs.Structures.{structure_in}
 use Rattle.flit_structures.specs.Texts.{IsWantedText}
 use Rattle.flit_structures.specs.declared.runs.Wanted.{Wanted}
@@ -55,36 +56,26 @@ pub on_wanted : {Op : Type 0} (meaning : Meaning Op) (trace : SeenTrace) (start 
     IfOk found (λ x. IsToldSeen meaning trace wanted start (items x))
 on_wanted meaning trace start wanted w items found is h = subst (λ (v : Wanted). IfOk found (λ x. IsToldSeen meaning trace v start (items x))) (sym is) h
 
+report_text : (t : Content) (shows summary : Bool) (start : Recovered) (text : List ℕ) → StartsAt t start →
+    IsReportText (structure_in t.head start.free.items).meaning t shows summary start text →
+    ((told : Told) (is : IsReportOf (structure_in t.head start.free.items).meaning t shows start told) →
+    SaysHeadline t shows start (shown_of is.given) told) → IsStepText structure_in t shows summary text
+report_text t shows summary start text starts h say = record {
+  start = start;
+  starts = starts;
+  told = h.told;
+  is = h.is;
+  says = say h.told h.is;
+  summary_is = h.summary_is;
+  text_is = h.text_is;
+}
+
 -- what is told of the run of a trace on its own structure is what is wanted of the trace
 pub wanted_text : (t : Content) (wanted : Wanted) (start : Recovered) (text : List ℕ) → StartsAt t start →
     IsToldOf (structure_in t.head start.free.items).meaning t wanted start text →
     ((shows : Bool) (told : Told) (is : IsReportOf (structure_in t.head start.free.items).meaning t shows start told) →
     SaysHeadline t shows start (shown_of is.given) told) → IsWantedText t wanted text
-wanted_text t Report start text starts h say = record {
-  start = start;
-  starts = starts;
-  told = h.told;
-  is = h.is;
-  says = say false h.told h.is;
-  summary_is = h.summary_is;
-  text_is = h.text_is;
-}
-wanted_text t Events start text starts h say = record {
-  start = start;
-  starts = starts;
-  told = h.told;
-  is = h.is;
-  says = say true h.told h.is;
-  summary_is = h.summary_is;
-  text_is = h.text_is;
-}
-wanted_text t Summary start text starts h say = record {
-  start = start;
-  starts = starts;
-  told = h.told;
-  is = h.is;
-  says = say false h.told h.is;
-  summary_is = h.summary_is;
-  text_is = h.text_is;
-}
+wanted_text t Report start text starts h say = report_text t false false start text starts h (say false)
+wanted_text t Events start text starts h say = report_text t true false start text starts h (say true)
+wanted_text t Summary start text starts h say = report_text t false true start text starts h (say false)
 wanted_text t Image start text starts h say = record { start = start; starts = starts; image = h.image; is = h.is; text_is = h.text_is }

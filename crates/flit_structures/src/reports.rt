@@ -25,16 +25,16 @@ use std::alloc::Global;
 fn told_over<P: Placement + Drop>(
     alloc: Global,
     place: P,
-    start: &Recovered,
+    start: Recovered,
     trace: &Trace,
     wanted: Wanted,
 ) -> Result<Vec<u8>, NoMemory>
-    requires found { IsRecovery trace.now.head.layout start.now.image.words.items
-        start.now.keys.items start.now.values.items start.now.free.items }
+    requires found { IsRecovery trace.now.head.layout start.image.words.items
+        start.keys.items start.values.items start.free.items }
     requires playable { CanPlaySeen (structure_of trace.now.head.layout (P.place place)
-        trace.now.head.layout.kind start.now.free.items).meaning start.now trace.now }
+        trace.now.head.layout.kind start.free.items).meaning start trace.now }
     ensures { IfOk result (λ text. IsToldSeen (structure_of trace.now.head.layout (P.place place)
-        trace.now.head.layout.kind start.now.free.items).meaning trace.now wanted start.now
+        trace.now.head.layout.kind start.free.items).meaning trace.now wanted start
         text.items) }
 {
     recovered_opens();
@@ -51,14 +51,14 @@ fn told_over<P: Placement + Drop>(
 /// starts, as a text. The error is NoMemory alone.
 pub fn told(
     alloc: Global,
-    start: &Recovered,
+    start: Recovered,
     trace: &Trace,
     wanted: Wanted,
 ) -> Result<Vec<u8>, NoMemory>
     requires read { WasRead trace.now }
     requires playable { IsPlayable trace.now.head }
-    requires starts { StartsSeen trace.now start.now }
-    ensures { IfOk result (λ text. IsToldOfTrace trace.now wanted start.now text.items) }
+    requires starts { StartsSeen trace.now start }
+    ensures { IfOk result (λ text. IsToldOfTrace trace.now wanted start text.items) }
 {
     traces_play();
     within_limits();

@@ -1,4 +1,4 @@
-ghost use Rattle.std.specs.Prelude.{◌≡◌, IfOk};
+ghost use Rattle.std.specs.Prelude.{◌≡◌, false, IfOk};
 ghost use Rattle.flit_model.specs.Recovery.{IsWhole};
 ghost use Rattle.flit_trace.specs.Contents.{Content};
 ghost use Rattle.flit_trace.specs.SeenTraces.{Shows};
@@ -10,7 +10,7 @@ use flit_model::Image;
 use flit_recover::Recovered;
 use flit_report::report_text;
 use flit_step_reports::plans_are_runs;
-use flit_step_runs::{report_of_run, run_of};
+use flit_step_runs::{report_of_run, run_of, summary_of_run};
 use flit_structure::Structure;
 use flit_trace::Trace;
 use flit_turns::Events;
@@ -34,17 +34,16 @@ pub enum Wanted {
 fn report_text_of_run<S: Structure>(
     alloc: Global,
     structure: S,
-    start: &Recovered,
+    start: Recovered,
     trace: &Trace,
     shows: bool,
-    summary: bool,
 ) -> Result<Vec<u8>, NoMemory>
-    requires { CanPlaySeen (S.meaning structure) start.now trace.now }
+    requires { CanPlaySeen (S.meaning structure) start trace.now }
     ensures { IfOk result (λ text. (t : Content) → Shows trace.now t →
-        CanPlay (S.meaning structure) start.now t →
-        IsReportText (S.meaning structure) t shows summary start.now text.items) }
+        CanPlay (S.meaning structure) start t →
+        IsReportText (S.meaning structure) t shows false start text.items) }
 {
-    let report = report_of_run(alloc, structure, start, trace, shows, summary)?;
+    let report = report_of_run(alloc, structure, start, trace, shows, false)?;
     report_text(alloc, &report)
 }
 
@@ -53,14 +52,14 @@ fn report_text_of_run<S: Structure>(
 pub fn image_of_run<S: Structure>(
     alloc: Global,
     structure: S,
-    start: &Recovered,
+    start: Recovered,
     trace: &Trace,
 ) -> Result<Image, NoMemory>
-    requires { CanPlaySeen (S.meaning structure) start.now trace.now }
+    requires { CanPlaySeen (S.meaning structure) start trace.now }
     ensures whole { IfOk result IsWhole }
     ensures image { IfOk result (λ image. (t : Content) → Shows trace.now t →
-        CanPlay (S.meaning structure) start.now t →
-        IsImageOfRun (S.meaning structure) t start.now image) }
+        CanPlay (S.meaning structure) start t →
+        IsImageOfRun (S.meaning structure) t start image) }
 {
     plans_are_runs::<S>();
     let mut events = Events {
@@ -77,18 +76,18 @@ pub fn image_of_run<S: Structure>(
 pub fn text_of_run<S: Structure>(
     alloc: Global,
     structure: S,
-    start: &Recovered,
+    start: Recovered,
     trace: &Trace,
     wanted: Wanted,
 ) -> Result<Vec<u8>, NoMemory>
-    requires { CanPlaySeen (S.meaning structure) start.now trace.now }
+    requires { CanPlaySeen (S.meaning structure) start trace.now }
     ensures { IfOk result (λ text.
-        IsToldSeen (S.meaning structure) trace.now wanted start.now text.items) }
+        IsToldSeen (S.meaning structure) trace.now wanted start text.items) }
 {
     match wanted {
-        Wanted::Report => report_text_of_run(alloc, structure, start, trace, false, false),
-        Wanted::Events => report_text_of_run(alloc, structure, start, trace, true, false),
-        Wanted::Summary => report_text_of_run(alloc, structure, start, trace, false, true),
+        Wanted::Report => report_text_of_run(alloc, structure, start, trace, false),
+        Wanted::Events => report_text_of_run(alloc, structure, start, trace, true),
+        Wanted::Summary => summary_of_run(alloc, structure, start, trace),
         Wanted::Image => {
             let image = image_of_run(alloc, structure, start, trace)?;
             write_image(alloc, &image)

@@ -95,7 +95,7 @@ pub fn text_of_trace(alloc: Global, bytes: &[u8], wanted: Wanted) -> Result<Vec<
 {
     traces_say_headline();
     let found = trace_and_start(alloc, bytes)?;
-    let Ok(text) = told(alloc, &found.1, &found.0, wanted) else {
+    let Ok(text) = told(alloc, found.1, &found.0, wanted) else {
         return Err(NoText::NoMemory);
     };
     Ok(text)

@@ -1,5 +1,5 @@
 use Rattle.flit_structures.specs.Structures.{placing_of}
-use Rattle.flit_run_structures.proofs.PlacedRuns.{layout_is, room_is}
+use Rattle.flit_structures.proofs.TraceOpenings.{layout_is, room_is}
 use Rattle.flit_run_structures.proofs.laws.traces_run.Goals as goal
 
 pub returns : goal.returns

@@ -17,15 +17,15 @@ play-requires-clause-turns g c =
     let meaning = g.S.Structure.meaning c.args.structure in
     let t = c.requires.0 in
     let works = c.in_ok-works.works.items in
-    turns_named meaning c.args.start.now t works c.args.trace.now c.in_ok-sched.sched.run c.requires.1
-    (opened_long meaning c.args.start.now t works c.in_ok-sched.sched.run c.in_ok-sched.ensures.run (c.in_ok-works.ensures t c.requires.1)) c.requires.2
+    turns_named meaning c.args.start t works c.args.trace.now c.in_ok-sched.sched.run c.requires.1
+    (opened_long meaning c.args.start t works c.in_ok-sched.sched.run c.in_ok-sched.ensures.run (c.in_ok-works.ensures t c.requires.1)) c.requires.2
 
 pub play-requires-clause-workers : goal.play-requires-clause-workers
 play-requires-clause-workers g c =
     let meaning = g.S.Structure.meaning c.args.structure in
     let t = c.requires.0 in
     let works = c.in_ok-works.works.items in
-    let long = opened_long meaning c.args.start.now t works c.in_ok-sched.sched.run c.in_ok-sched.ensures.run (c.in_ok-works.ensures t c.requires.1) in
+    let long = opened_long meaning c.args.start t works c.in_ok-sched.sched.run c.in_ok-sched.ensures.run (c.in_ok-works.ensures t c.requires.1) in
     let workers = ap (λ h. h.layout.workers) c.requires.1.head in
     omega (arith, long, workers)
 
@@ -34,6 +34,6 @@ returns-clause-played g c = λ t shows can.
     let lines = subst (λ s. ShowsLines (g.S.Structure.meaning s) (turn_lines c.args.trace.now.turns ++ last_lines c.args.trace.now.head.layout.workers)
     c.in_ok-sched.sched.run c.play.new.sched.run c.args.events.now.kept c.args.events.now.shown.items c.play.new.events.shown.items)
     c.in_ok-sched.ensures.structure c.in_ok-play.ensures.lines in
-    is_played (g.S.Structure.meaning c.args.structure) c.args.start.now t c.in_ok-works.works.items c.args.trace.now c.in_ok-sched.sched.run
+    is_played (g.S.Structure.meaning c.args.structure) c.args.start t c.in_ok-works.works.items c.args.trace.now c.in_ok-sched.sched.run
     c.play.new.sched.run c.args.events.now.kept c.args.events.now.shown.items c.play.new.events.shown.items shows can
     (c.in_ok-works.ensures t shows) c.in_ok-sched.ensures.run lines

@@ -9,17 +9,17 @@ use Rattle.flit_step_runs.proofs.telling.tell.Goals as goal
 
 pub tallies_of-requires : goal.tallies_of-requires
 tallies_of-requires g c =
-    run_long (g.S.Structure.meaning c.args.sched.now.structure) c.args.trace.now c.args.sched.now.run c.requires
+    run_long (g.S.Structure.meaning c.args.sched.structure) c.args.trace.now c.args.sched.run c.requires
     ∙ sym (ap (λ (h : Head). h.layout.workers) c.head.ensures.is)
 
-pub recover_lawful-requires-clause-whole : goal.recover_lawful-requires-clause-whole
-recover_lawful-requires-clause-whole g c =
-    (whole_lawful (g.S.Structure.meaning c.args.sched.now.structure) c.args.trace.now c.args.sched.now.run c.ahead-ahead.result.now c.in_ok-image.image
+pub recover_lawful_owned-requires-clause-whole : goal.recover_lawful_owned-requires-clause-whole
+recover_lawful_owned-requires-clause-whole g c =
+    (whole_lawful (g.S.Structure.meaning c.args.sched.structure) c.args.trace.now c.args.sched.run c.ahead-ahead.result.now c.in_ok-image.image
     c.requires c.ahead-ahead.ensures c.in_ok-image.ensures.shape c.in_ok-image.ensures.words).0
 
-pub recover_lawful-requires-clause-lawful : goal.recover_lawful-requires-clause-lawful
-recover_lawful-requires-clause-lawful g c =
-    (whole_lawful (g.S.Structure.meaning c.args.sched.now.structure) c.args.trace.now c.args.sched.now.run c.ahead-ahead.result.now c.in_ok-image.image
+pub recover_lawful_owned-requires-clause-lawful : goal.recover_lawful_owned-requires-clause-lawful
+recover_lawful_owned-requires-clause-lawful g c =
+    (whole_lawful (g.S.Structure.meaning c.args.sched.structure) c.args.trace.now c.args.sched.run c.ahead-ahead.result.now c.in_ok-image.image
     c.requires c.ahead-ahead.ensures c.in_ok-image.ensures.shape c.in_ok-image.ensures.words).1
 
 pub count_rows-free-requires : goal.count_rows-free-requires
@@ -30,8 +30,8 @@ count_rows-free-requires g c =
 
 pub returns-clause-tells : goal.returns-clause-tells
 returns-clause-tells g c = λ t shows same.
-    let meaning = g.S.Structure.meaning c.args.sched.now.structure in
-    let r = c.args.sched.now.run in
+    let meaning = g.S.Structure.meaning c.args.sched.structure in
+    let r = c.args.sched.run in
     let image = c.in_ok-image.image in
     let keys = c.in_ok-found.found.keys.items in
     let values = c.in_ok-found.found.values.items in
