@@ -24,3 +24,4 @@ pub mod Promised
 pub mod TurnOrder
 pub mod StayingCalls
 pub mod StopCounts
+pub mod InsertCounts

@@ -1,5 +1,5 @@
 -- What came of a call that is over stays.
-use Rattle.std.proofs.Common.{◌≡◌, ℕ, ◌<◌, Bool, List, [], ◌++◌, filter, sym, ◌∙◌, ap, subst, arith, append_assoc, append-nil}
+use Rattle.std.proofs.Common.{◌≡◌, ℕ, Bool, List, [], ◌++◌, filter, sym, ◌∙◌, ap, subst, arith, append_assoc, append-nil}
 use Rattle.flit_model.specs.declared.calls.Placed.{Placed}
 use Rattle.flit_structure.specs.Meanings.{Meaning}
 use Rattle.flit_structure.specs.Lawful.{Lawful}

@@ -1,5 +1,5 @@
 -- What a stop has left after some turns.
-use Rattle.std.proofs.Common.{◌≡◌, ◌≢◌, ◌⊎◌, inl, inr, ℕ, zero, suc, ◌+◌, ◌-◌, ◌<◌, ◌≤◌, eqb, Bool, true, false, cond, List, [], ◌∷◌, ◌++◌, length, refl, sym, ◌∙◌, ap, subst, arith, Option, Some, None}
+use Rattle.std.proofs.Common.{◌≡◌, ◌≢◌, inr, ℕ, zero, suc, ◌+◌, ◌-◌, eqb, Bool, true, false, cond, List, [], ◌∷◌, length, refl, sym, ◌∙◌, ap, subst, arith, Option, Some, None}
 use Rattle.std.proofs.lemmas.Bool.{false≢true, eqb-true, eq-eqb}
 use Rattle.flit_model.specs.declared.events.Event.{Event}
 use Rattle.flit_structure.specs.Meanings.{Meaning}
@@ -7,7 +7,6 @@ use Rattle.flit_sched.specs.declared.runs.Turn.{Turn}
 use Rattle.flit_sched.specs.declared.runs.Turn.TheVariants.{Event as Event_turn, Idle as Idle_turn}
 use Rattle.flit_sched.specs.Runs.{Part, Run, IsPart}
 use Rattle.flit_sched.specs.Turns.{IsTurn, Turned, left_after}
-use Rattle.flit_sched.proofs.SplitLists.{same_split}
 use Rattle.flit_histories.specs.Following.{Given, Follows}
 use Rattle.flit_histories.specs.TurnLaws.{one_if_event, events_by, IsLeftBy}
 use Rattle.flit_histories.proofs.LedParts.{elsewhere, same_part, HasPart, part_turned}

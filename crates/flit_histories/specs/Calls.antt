@@ -1,11 +1,12 @@
 -- The calls among the items of a worker, by their numbers, and the entries that are theirs.
-use Rattle.std.specs.Prelude.{◌≡◌, ℕ, ◌+◌, ◌==◌, ◌&&◌, ◌||◌, Bool, List, [], ◌∷◌, Option, Some, slice_get, take, if◌then◌else◌}
-use Rattle.flit_model.specs.Histories.{is_update_by, is_read_by}
+use Rattle.std.specs.Prelude.{◌≡◌, ℕ, ◌+◌, ◌==◌, ◌&&◌, ◌||◌, Bool, List, [], ◌∷◌, count_by, Option, Some, slice_get, take, if◌then◌else◌}
+use Rattle.flit_model.specs.Histories.{is_yes, is_update_by, is_read_by}
 use Rattle.flit_model.specs.declared.calls.Call.{Call}
 use Rattle.flit_model.specs.declared.calls.Entry.{Entry}
 use Rattle.flit_model.specs.declared.calls.Item.{Item}
 use Rattle.flit_model.specs.declared.calls.Item.TheVariants.{Call as Call_item, Evict as Evict_item}
 use Rattle.flit_model.specs.declared.calls.Reply.{Reply}
+use Rattle.flit_structure.specs.Lawful.{is_insert}
 use Rattle.flit_structure.specs.declared.workers.Doing.TheVariants.{Busy}
 use Rattle.flit_sched.specs.Runs.{Part, Run, IsPart}
 
@@ -26,6 +27,10 @@ pub record IsCallAt (items : List Item) (k : ℕ) (call : Call) (number : ℕ) :
 -- an entry has this name and number
 abbrev pub is_of : ℕ → ℕ → Entry → Bool
 is_of name number e = (e.worker == name) && (e.number == number)
+
+-- how many inserts with reply Yes a history has
+abbrev pub inserts_in : List Entry → ℕ
+inserts_in history = count_by (λ e. is_insert e.call && is_yes e.reply) history
 
 -- what a history has of a call that has its reply: an update or a completed read has one entry, a call that was refused
 -- has none

@@ -14,7 +14,7 @@ use Rattle.flit_report.specs.declared.content.Line.{Line}
 use Rattle.flit_trace.specs.Contents.{ItemLine, script_of}
 use Rattle.flit_trace.specs.Rights.{IsRightLine}
 use Rattle.flit_sched.specs.Runs.{Run}
-use Rattle.flit_histories.specs.Calls.{calls_in}
+use Rattle.flit_histories.specs.Calls.{one_if_call, calls_in}
 use Rattle.flit_step_reports.specs.StepReports.{lines_by, outcome_in, told_item, told_lines}
 use Rattle.flit_step_sentences.specs.Lines.{call_asked, calls_asked, calls_told, lines_of, IsLineOf}
 
@@ -124,6 +124,19 @@ module _ {Op : Type 0} (r : Run Op) where
     pub number : calls_in (take item items) ≡ j
     pub told : x ≡ record { worker = worker; call = call; outcome = outcome_in r worker (before + item) }
 
+  behind : (worker before j k : ℕ) (i : Item) (items : List Item) (x : Line) → one_if_call i + k ≡ j → IsOwn worker (before + 1) k items x →
+      IsOwn worker before j (i ∷ items) x
+  behind worker before j k i items x counts o =
+      let here : (before + 1) + o.item ≡ before + suc o.item = omega arith in
+      let count = o.number in
+      record {
+        item = suc o.item;
+        call = o.call;
+        is = o.is;
+        number = omega (arith, counts, count);
+        told = o.told ∙ ap (λ n. record { worker = worker; call = o.call; outcome = outcome_in r worker n }) here;
+      }
+
   pub own_at : (worker before j : ℕ) (items : List Item) (x : Line) → slice_get (own_lines worker before items) j ≡ Some x → IsOwn worker before j items x
   own_at worker before j [] x at = absurd (none-some x at)
   own_at worker before zero (Call_item call ∷ is) x at =
@@ -137,27 +150,8 @@ module _ {Op : Type 0} (r : Run Op) where
         told = sym same ∙ ap (λ n. record { worker = worker; call = call; outcome = outcome_in r worker n }) here;
       }
   own_at worker before (suc j) (Call_item call ∷ is) x at =
-      let o = own_at worker (before + 1) j is x at in
-      let here : (before + 1) + o.item ≡ before + suc o.item = omega arith in
-      let count = o.number in
-      record {
-        item = suc o.item;
-        call = o.call;
-        is = o.is;
-        number = omega (arith, count);
-        told = o.told ∙ ap (λ n. record { worker = worker; call = o.call; outcome = outcome_in r worker n }) here;
-      }
-  own_at worker before j (Evict_item word ∷ is) x at =
-      let o = own_at worker (before + 1) j is x at in
-      let here : (before + 1) + o.item ≡ before + suc o.item = omega arith in
-      let count = o.number in
-      record {
-        item = suc o.item;
-        call = o.call;
-        is = o.is;
-        number = omega (arith, count);
-        told = o.told ∙ ap (λ n. record { worker = worker; call = o.call; outcome = outcome_in r worker n }) here;
-      }
+      behind worker before (suc j) j (Call_item call) is x (omega arith) (own_at worker (before + 1) j is x at)
+  own_at worker before j (Evict_item word ∷ is) x at = behind worker before j j (Evict_item word) is x (omega arith) (own_at worker (before + 1) j is x at)
 
   pub at_own : (worker before k : ℕ) (items : List Item) (call : Call) → slice_get items k ≡ Some (Call_item call) →
       slice_get (own_lines worker before items) (calls_in (take k items))

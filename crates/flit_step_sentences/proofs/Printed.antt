@@ -9,7 +9,7 @@ use Rattle.std.proofs.lemmas.List.Elements.{Contains-append_right}
 use Rattle.flit_words.specs.declared.layouts.Layout.{Layout}
 use Rattle.flit_model.specs.AboutImages.{OneMap}
 use Rattle.flit_model.specs.CrashImages.{crash_image}
-use Rattle.flit_model.specs.Histories.{is_update_by, is_read_by, is_update, history_of}
+use Rattle.flit_model.specs.Histories.{is_update_by, is_read_by, is_update, is_read, IsRightAt, history_of}
 use Rattle.flit_model.specs.Maps.{Map, IsLegal, map_after_all}
 use Rattle.flit_model.specs.Recovery.{SameShape, IsRecovery}
 use Rattle.flit_model.specs.States.{IsPersistent, state_from}
@@ -37,7 +37,7 @@ use Rattle.flit_sched.specs.Openings.{opened_run}
 use Rattle.flit_sched.specs.Turns.{tally_in}
 use Rattle.flit_sched.specs.Views.{history_with}
 use Rattle.flit_sched.proofs.ShapeLaws.{same_shape_recovery}
-use Rattle.flit_histories.specs.Calls.{calls_in, IsCallIn, is_of, entries_of, IsOfCall, IsUnderWayAt}
+use Rattle.flit_histories.specs.Calls.{calls_in, IsCallIn, is_of, inserts_in, entries_of, IsOfCall, IsUnderWayAt}
 use Rattle.flit_histories.specs.Orders.{IsIn, StandsBefore}
 use Rattle.flit_histories.specs.Reached.{Leads, here}
 use Rattle.flit_histories.proofs.CallLaws.{all_history, full_none, worn_none}
@@ -59,7 +59,7 @@ use Rattle.flit_step_reports.proofs.PlanLaws.{plan_out, stop_kept}
 use Rattle.flit_histories.specs.TurnLaws.{events_by}
 use Rattle.flit_step_sentences.specs.Lines.{IsLineOf, calls_told, entries_at}
 use Rattle.flit_step_sentences.specs.Machines.{first_state, state_after, AreAnswered, events_made}
-use Rattle.flit_step_sentences.specs.Sentences.{map_at, inserts_in, HasCompletedOnce, IsUnfinishedUpdate, HasOneUnfinishedEach, KeepsStops, IsWithinBounds, SaysHeadline}
+use Rattle.flit_step_sentences.specs.Sentences.{map_at, HasCompletedOnce, IsUnfinishedUpdate, HasOneUnfinishedEach, KeepsStops, IsWithinBounds, SaysHeadline}
 use Rattle.flit_step_sentences.specs.SayLaws.{IsOpenFor}
 use Rattle.flit_step_sentences.proofs.BegunCalls.{searches}
 use Rattle.flit_step_sentences.proofs.FittingReplies.{reply_fits}
@@ -188,6 +188,10 @@ module _ {Op : Type 0} (meaning : Meaning Op) (l : Lawful meaning) (one_map : On
 
   settled_made : AllByRecursion (λ e. is_update e ≡ true) final.progress.settled
   settled_made = all_left (λ e. is_update e ≡ true) final.progress.settled (waiting_updates final.progress) updates_made
+
+  reads_made : AllByRecursion (λ r. is_read r.entry ≡ true) final.placed
+  reads_made = all_map (IsRightAt final.content final.progress.settled) (λ r. is_read r.entry ≡ true) (λ r right. right.read) final.placed
+      (printed.promises meaning l t shows start told ready is).reads
 
   -- of a call that isn't over the history has updates alone
   abbrev IsItsUpdate : ℕ → ℕ → Entry → Type 0
@@ -380,7 +384,7 @@ module _ {Op : Type 0} (meaning : Meaning Op) (l : Lawful meaning) (one_map : On
           b.0,
           subst (λ es. length start.free.items < rows_needed t.head.layout.kind * (inserts_in es + t.head.layout.workers)) (sym is.history)
               (more_rows t.head.layout.kind (length start.free.items) _ (inserts_in history) t.head.layout.workers
-              (inserts_told final.progress.settled _ final.placed settled_made) b.1),
+              (inserts_told final.progress.settled _ final.placed settled_made reads_made) b.1),
         )
         );
     worn = λ worker number call word version h. (

@@ -1,11 +1,11 @@
 -- The headline, sentence by sentence, of what the command `step` prints of a trace. It is said over the trace, over what recovery
 -- finds where the trace starts, over the events that the workers made, and over what the report tells.
-use Rattle.std.specs.Prelude.{◌≡◌, ◌⊎◌, ℕ, ◌+◌, ◌-◌, ◌*◌, ◌<◌, ◌≤◌, ◌&&◌, Bool, true, false, List, [], ◌∷◌, length, count_by, Some, slice_get, if◌then◌else◌}
+use Rattle.std.specs.Prelude.{◌≡◌, ◌⊎◌, ℕ, ◌+◌, ◌-◌, ◌*◌, ◌<◌, ◌≤◌, Bool, true, false, List, [], ◌∷◌, length, Some, slice_get, if◌then◌else◌}
 use Rattle.std.specs.List.{AllByRecursion}
 use Rattle.std.specs.FinMap as map_of_pairs
 use Rattle.flit_words.specs.declared.layouts.Layout.{Layout}
 use Rattle.flit_model.specs.Maps.{Map, IsLegal, map_after_all}
-use Rattle.flit_model.specs.Histories.{is_yes, is_update}
+use Rattle.flit_model.specs.Histories.{is_update}
 use Rattle.flit_model.specs.States.{State, IsPersistent}
 use Rattle.flit_model.specs.CrashImages.{crash_image}
 use Rattle.flit_model.specs.declared.calls.Call.{Call}
@@ -15,12 +15,13 @@ use Rattle.flit_model.specs.declared.calls.Reply.{Reply}
 use Rattle.flit_model.specs.declared.calls.Reply.TheVariants.{Full, Worn}
 use Rattle.flit_model.specs.declared.calls.Tally.{Tally}
 use Rattle.flit_model.specs.declared.found.Recovered.{Recovered}
-use Rattle.flit_structure.specs.Lawful.{IsBelowTop, excuses, fits, is_insert, rows_needed}
+use Rattle.flit_structure.specs.Lawful.{IsBelowTop, excuses, fits, rows_needed}
 use Rattle.flit_trace.specs.Contents.{Content}
 use Rattle.flit_trace.specs.Drafts.{stop_of}
 use Rattle.flit_report.specs.declared.content.Shown.{Shown}
 use Rattle.flit_report.specs.Content.{Content as Told, is_done}
 use Rattle.flit_sched.specs.Openings.{content_of}
+use Rattle.flit_histories.specs.Calls.{inserts_in}
 use Rattle.flit_histories.specs.Orders.{IsIn, StandsBefore}
 use Rattle.flit_step_reports.specs.StepReports.{plan_of, picks_in, version_of, TellsRecovery}
 use Rattle.flit_step_sentences.specs.Lines.{calls_asked, calls_told, lines_of, IsLineOf, entries_at, may_have_begun}
@@ -29,10 +30,6 @@ use Rattle.flit_step_sentences.specs.Machines.{first_state, state_after, AreAnsw
 -- the map at the start
 abbrev pub map_at : Recovered → Map
 map_at start = content_of start.keys.items start.values.items
-
--- how many inserts with reply Yes a history has
-abbrev pub inserts_in : List Entry → ℕ
-inserts_in history = count_by (λ e. is_insert e.call && is_yes e.reply) history
 
 -- ---- what is printed of each call
 

@@ -1,101 +1,28 @@
 -- What a report says, from all that is promised.
-use Rattle.std.proofs.Common.{◌≡◌, ◌⊎◌, inl, inr, ℕ, suc, ◌+◌, ◌*◌, ◌<◌, ◌≤◌, ◌&&◌, Bool, true, false, List, [], ◌∷◌, ◌++◌, map, count_by, Option, Some, None, refl, sym, ◌∙◌, ap, subst, arith, append-nil, ⊎_elim}
-use Rattle.std.proofs.lemmas.Bool.{false≢true, cases_lt}
-use Rattle.std.specs.List.{AllByRecursion}
-use Rattle.flit_model.specs.Histories.{is_yes, is_no, is_update, is_read, IsRightAt, reads_at, history_from}
+use Rattle.std.proofs.Common.{◌≡◌, ◌⊎◌, inl, inr, ℕ, ◌+◌, ◌*◌, ◌<◌, ◌≤◌, true, List, [], ◌∷◌, ◌++◌, map, Option, Some, None, refl, sym, ◌∙◌, ap, subst, arith, append-nil, ⊎_elim}
+use Rattle.std.proofs.lemmas.Bool.{cases_lt}
+use Rattle.flit_model.specs.Histories.{is_read, IsRightAt}
 use Rattle.flit_model.specs.Maps.{IsLegal, map_after_all}
 use Rattle.flit_model.specs.Recovery.{layout_of}
 use Rattle.flit_model.specs.declared.calls.Ahead.TheVariants.{None as No_ahead}
-use Rattle.flit_model.specs.declared.calls.Call.{Call}
-use Rattle.flit_model.specs.declared.calls.Call.TheVariants.{Insert, Remove, Contains, Get}
 use Rattle.flit_model.specs.declared.calls.Entry.{Entry}
 use Rattle.flit_model.specs.declared.calls.Outcome.{Outcome}
 use Rattle.flit_model.specs.declared.calls.Outcome.TheVariants.{Replied}
-use Rattle.flit_model.specs.declared.calls.Placed.{Placed}
 use Rattle.flit_model.specs.declared.calls.Reply.{Reply}
 use Rattle.flit_model.specs.declared.calls.Reply.TheVariants.{Yes, No, Found, Full, Worn}
 use Rattle.flit_model.specs.declared.calls.Work.{Work}
 use Rattle.flit_model.specs.States.{state_from}
-use Rattle.flit_model.proofs.Counting.{count_by-cons_yes, count_by-cons_no, count_by-append}
-use Rattle.flit_model.proofs.HistoryLaws.{all-reads_at}
 use Rattle.flit_structure.specs.Meanings.{Meaning}
-use Rattle.flit_structure.specs.Lawful.{HasMap, IsBounded, is_insert, rows_needed}
+use Rattle.flit_structure.specs.Lawful.{HasMap, IsBounded, rows_needed}
 use Rattle.flit_structure.proofs.Names.{all_map}
+use Rattle.flit_histories.proofs.InsertCounts.{inserts_counted}
 use Rattle.flit_table.specs.declared.told.Known.{Known}
 use Rattle.flit_table.specs.declared.views.Origin.{Origin}
 use Rattle.flit_table.specs.Views.{content_of, answered}
 use Rattle.flit_workers.specs.Works.{item_of, outcomes_of, EndsAt}
 use Rattle.flit_thread_histories.specs.Promises.{history_told, events_told, IsToldOf, KeepsPromises}
-use Rattle.flit_thread_histories.specs.Reports.{AllReplied, HasMadeAll, EndsByStop, inserts_in, IsWithinTold, TellsRun}
+use Rattle.flit_thread_histories.specs.Reports.{AllReplied, HasMadeAll, EndsByStop, IsWithinTold, TellsRun}
 use Rattle.flit_thread_histories.proofs.Parts.{along}
-
--- ---- counts in a history
-
-module _ (p : Entry → Bool) where
-  count_same : (q : Entry → Bool) (xs : List Entry) → AllByRecursion (λ x. p x ≡ q x) xs → count_by p xs ≡ count_by q xs
-  count_same q [] h = refl
-  count_same q (x ∷ xs) h = by_test (q x) refl (count_same q xs h.1)
-    where
-      by_test : (b : Bool) → q x ≡ b → count_by p xs ≡ count_by q xs → count_by p (x ∷ xs) ≡ count_by q (x ∷ xs)
-      by_test true is rest = count_by-cons_yes p x xs (h.0 ∙ is) ∙ ap suc rest ∙ sym (count_by-cons_yes q x xs is)
-      by_test false is rest = count_by-cons_no p x xs (h.0 ∙ is) ∙ rest ∙ sym (count_by-cons_no q x xs is)
-
-  count_nothing : (xs : List Entry) → AllByRecursion (λ x. p x ≡ false) xs → count_by p xs ≡ 0
-  count_nothing [] h = refl
-  count_nothing (x ∷ xs) h = count_by-cons_no p x xs h.0 ∙ count_nothing xs h.1
-
-  none_at : (n : ℕ) (reads : List Placed) → AllByRecursion (λ r. p r.entry ≡ false) reads → count_by p (reads_at n reads) ≡ 0
-  none_at n reads h = count_nothing (reads_at n reads) (all-reads_at (λ x. p x ≡ false) n reads
-      (all_map (λ r. p r.entry ≡ false) (λ r. r.position ≡ n → p r.entry ≡ false) (λ r k e. k) reads h))
-
-  -- where no read counts, as many as the updates
-  count_history : (n : ℕ) (us : List Entry) (reads : List Placed) → AllByRecursion (λ r. p r.entry ≡ false) reads →
-      count_by p (history_from n us reads) ≡ count_by p us
-  count_history n [] reads h = none_at n reads h
-  count_history n (u ∷ us) reads h =
-      let whole = count_by-append p (reads_at n reads) (u ∷ history_from (suc n) us reads) in
-      let none = none_at n reads h in
-      let rest = count_history (suc n) us reads h in
-      whole ∙ ap (λ k. k + count_by p (u ∷ history_from (suc n) us reads)) none ∙ zero_more _
-      ∙ by_test (p u) refl rest
-    where
-      zero_more : (k : ℕ) → 0 + k ≡ k
-      zero_more k = omega arith
-
-      by_test : (b : Bool) → p u ≡ b → count_by p (history_from (suc n) us reads) ≡ count_by p us →
-          count_by p (u ∷ history_from (suc n) us reads) ≡ count_by p (u ∷ us)
-      by_test true is rest = count_by-cons_yes p u (history_from (suc n) us reads) is ∙ ap suc rest ∙ sym (count_by-cons_yes p u us is)
-      by_test false is rest = count_by-cons_no p u (history_from (suc n) us reads) is ∙ rest ∙ sym (count_by-cons_no p u us is)
-
-abbrev is_won : Entry → Bool
-is_won e = is_insert e.call && is_yes e.reply
-
-not_both : (r : Reply) → is_no r ≡ true → is_yes r ≡ false
-not_both Yes h = absurd (false≢true h)
-not_both No h = refl
-not_both (Found v) h = refl
-not_both (Full t) h = refl
-not_both (Worn w v) h = refl
-
-read_call : (c : Call) (r : Reply) → is_read (record { worker = 0; number = 0; call = c; reply = r }) ≡ true → (is_insert c && is_yes r) ≡ false
-read_call (Insert k v) r h = not_both r h
-read_call (Remove k) r h = refl
-read_call (Contains k) r h = refl
-read_call (Get k) r h = refl
-
-update_call : (c : Call) (r : Reply) → is_update (record { worker = 0; number = 0; call = c; reply = r }) ≡ true → (is_insert c && is_yes r) ≡ is_insert c
-update_call (Insert k v) r h = h
-update_call (Remove k) r h = refl
-update_call (Contains k) r h = refl
-update_call (Get k) r h = refl
-
--- the inserts with reply Yes in a history are the inserts among its updates
-inserts_counted : (us : List Entry) (reads : List Placed) → AllByRecursion (λ e. is_update e ≡ true) us → AllByRecursion (λ r. is_read r.entry ≡ true) reads →
-    inserts_in (history_from 0 us reads) ≡ count_by (λ e. is_insert e.call) us
-inserts_counted us reads h k =
-    count_history is_won 0 us reads (all_map (λ r. is_read r.entry ≡ true) (λ r. is_won r.entry ≡ false) (λ r e. read_call r.entry.call r.entry.reply e) reads k)
-    ∙ count_same is_won (λ e. is_insert e.call) us
-    (all_map (λ e. is_update e ≡ true) (λ e. is_won e ≡ is_insert e.call) (λ e i. update_call e.call e.reply i) us h)
 
 -- ---- how a worker ended
 

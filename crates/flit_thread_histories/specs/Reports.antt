@@ -1,21 +1,20 @@
 -- What a report of Works that were run on threads says, where the image takes no value ahead: each sentence apart, from what
 -- is told.
-use Rattle.std.specs.Prelude.{◌≡◌, ◌⊎◌, ℕ, ◌+◌, ◌*◌, ◌<◌, ◌≤◌, ◌&&◌, List, map, count_by, slice_index, Some, None}
+use Rattle.std.specs.Prelude.{◌≡◌, ◌⊎◌, ℕ, ◌+◌, ◌*◌, ◌<◌, ◌≤◌, List, map, slice_index, Some, None}
 use Rattle.std.specs.List.{AllByRecursion}
 use Rattle.flit_words.specs.declared.layouts.Layout.{Layout}
 use Rattle.flit_words.specs.Words.{version_of}
 use Rattle.flit_model.specs.Maps.{IsLegal, map_after_all}
-use Rattle.flit_model.specs.Histories.{is_yes}
 use Rattle.flit_model.specs.Recovery.{layout_of}
 use Rattle.flit_model.specs.declared.calls.Ahead.TheVariants.{None as No_ahead}
-use Rattle.flit_model.specs.declared.calls.Entry.{Entry}
 use Rattle.flit_model.specs.declared.calls.Outcome.{Outcome}
 use Rattle.flit_model.specs.declared.calls.Outcome.TheVariants.{Replied}
 use Rattle.flit_model.specs.declared.calls.Reply.{Reply}
 use Rattle.flit_model.specs.declared.calls.Reply.TheVariants.{Yes, No, Found, Full, Worn}
 use Rattle.flit_model.specs.declared.calls.Work.{Work}
 use Rattle.flit_structure.specs.Meanings.{Meaning}
-use Rattle.flit_structure.specs.Lawful.{HasMap, is_insert, rows_needed}
+use Rattle.flit_structure.specs.Lawful.{HasMap, rows_needed}
+use Rattle.flit_histories.specs.Calls.{inserts_in}
 use Rattle.flit_table.specs.declared.told.Known.{Known}
 use Rattle.flit_table.specs.declared.views.Origin.{Origin}
 use Rattle.flit_table.specs.Closing.{TellsAllNames}
@@ -37,10 +36,6 @@ HasMadeAll t name w outcomes = AllReplied outcomes × (w.items.items ≡ map ite
 pub record EndsByStop (t : Known) (name : ℕ) (w : Work) (outcomes : List Outcome) : Type 0 where
   pub without : w.stop ≡ None → HasMadeAll t name w outcomes
   pub with_stop : (stop : ℕ) → w.stop ≡ Some stop → (events_told name t ≡ stop) ⊎ ((events_told name t < stop) × HasMadeAll t name w outcomes)
-
--- how many inserts with reply Yes a history has
-abbrev pub inserts_in : List Entry → ℕ
-inserts_in history = count_by (λ e. is_insert e.call && is_yes e.reply) history
 
 -- a call was answered Full or Worn only within its bound, by the history and the image that are told
 abbrev pub IsWithinTold : Layout → ℕ → Known → Reply → Type 0

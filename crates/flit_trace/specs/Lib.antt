@@ -11,5 +11,4 @@ pub mod Rights
 pub mod SeenTraces
 pub mod Readings
 pub mod Views
-pub mod PlainContents
 pub mod AboutTraces
