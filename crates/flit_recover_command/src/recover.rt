@@ -46,19 +46,17 @@ struct Recovery;
 impl Answering for Recovery {
     ghost use Rattle.flit_recover_command.specs.Recovering.{IsRecoveryOf, HasNoImage};
 
-    type Beside = ();
-
-    ghost IsAnswer = { λ _ bytes _ text. IsRecoveryOf bytes text };
+    ghost IsAnswer = { λ _ bytes text. IsRecoveryOf bytes text };
 
     ghost HasNone = { HasNoImage };
 
-    fn answer(&self, alloc: Global, input: Vec<u8>) -> Result<(Vec<u8>, ()), Status>
-        ensures answer { IfOk result (λ a. IsRecoveryOf input.items a.0.items) }
+    fn answer(&self, alloc: Global, input: Vec<u8>) -> Result<Vec<u8>, Status>
+        ensures answer { IfOk result (λ text. IsRecoveryOf input.items text.items) }
         ensures kind { IfErr result IsOfBytes }
         ensures none { IfErr result (HasNoImage input.items) }
     {
         let image = image_of_text(alloc, input)?;
-        Ok((recovery_of_image(alloc, image)?, ()))
+        recovery_of_image(alloc, image)
     }
 }
 
@@ -90,5 +88,5 @@ pub fn flit_recover<S: Source, K: Sink>(
     if !words.is(&["recover"]) {
         return Status::Usage;
     }
-    answer_input(&Recovery, alloc, source, sink).status
+    answer_input(&Recovery, alloc, source, sink)
 }

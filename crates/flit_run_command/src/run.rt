@@ -2,10 +2,10 @@ ghost use Rattle.std.specs.Prelude.{◌≡◌, ◌≢◌, ◌⊎◌, ◌↔◌, 
 ghost use Rattle.flit_statuses.specs.Statuses.{WritesNothing};
 ghost use Rattle.flit_statuses.specs.Reading.{LeavesInput, CountsReads, StopsBefore};
 ghost use Rattle.flit_statuses.specs.Writing.{CountsWrites};
-ghost use Rattle.flit_statuses.specs.Answers.{IsOfBytes, Blames, AnswersInput, WroteAnswer, IsAnswerWith};
+ghost use Rattle.flit_statuses.specs.Answers.{IsOfBytes, Blames, AnswersInput, WroteAnswer};
 ghost use Rattle.flit_structures.specs.Refusals.{HasNoReport};
-ghost use Rattle.flit_run_command.specs.Running.{words_for, NamesNoRun, IsTextWithTold, WroteRun};
-ghost use Rattle.flit_run_command.specs.Completeness.{CanComplete};
+ghost use Rattle.flit_structures.specs.RightTraces.{CanComplete};
+ghost use Rattle.flit_run_command.specs.Running.{words_for, NamesNoRun, IsTextWithTold, IsAnswerWith, WroteRun};
 
 use flit_commands::Words;
 use flit_outside::{Sink, Source, read_input};
@@ -99,7 +99,7 @@ fn run_input<S: Source, K: Sink, G: Gate + Sync, R: Threads + Wait + Sync>(
     ensures blames { Blames HasNoReport result.status (S.left source.old) }
     ensures leaves { IfSome (S.left source.old) (LeavesInput result.status (S.left source.new)) }
     ensures read_faults { CountsReads result.status (S.faults source.old) (S.faults source.new) }
-    ensures wrote { WroteAnswer (IsAnswerWith (IsTextWithTold wanted) result.told) result.status
+    ensures wrote { WroteAnswer (IsAnswerWith wanted result.told) result.status
         (S.left source.old) (K.taken sink.old) (K.taken sink.new) }
     ensures told { IsNone result.told ↔ WritesNothing result.status }
     ensures write_faults { CountsWrites result.status (K.faults sink.old) (K.faults sink.new) }
@@ -160,7 +160,7 @@ pub fn flit_run<S: Source, K: Sink, G: Gate + Sync, R: Threads + Wait + Sync>(
     ensures write_faults { CountsWrites result.status (K.faults sink.old) (K.faults sink.new) }
     ensures unwritten { WritesNothing result.status → sink.new ≡ sink.old }
 
-    ensures completes { CanComplete words.now (S.left source.old)
+    ensures completes { CanComplete words_for words.now (S.left source.old)
         (S.faults source.old) (S.faults source.new) (K.faults sink.old) (K.faults sink.new)
         → (result.status ≡ Status.Done) ⊎ (result.status ≡ Status.NoMemory) }
 {

@@ -1,5 +1,5 @@
 -- What a command says of the input that it answers: why there is no answer, with an input whose bytes the source tells.
-use Rattle.std.specs.Prelude.{◌≡◌, ◌⊎◌, ℕ, ◌<◌, List, length, Option, IfSome, IsSomeAnd}
+use Rattle.std.specs.Prelude.{◌≡◌, ◌⊎◌, ℕ, ◌<◌, List, length, Option, IfSome}
 use Rattle.flit_words.specs.declared.limits.TheConstants.{MOST_BYTES}
 use Rattle.flit_trace.specs.declared.faults.Bound.{Bound}
 use Rattle.flit_trace.specs.declared.faults.Bound.TheVariants.{Bytes}
@@ -48,7 +48,3 @@ AnswersInput IsAnswer input text = IfSome input (λ bytes. IsAnswer bytes text)
 -- the answer of the input was written: the whole of it at Done, a proper front of it at WriteFault
 abbrev pub WroteAnswer : (List ℕ → List ℕ → Type 0) → Status → Option (List ℕ) → Option (List ℕ) → Option (List ℕ) → Type 0
 WroteAnswer IsAnswer status input before after = WroteAt status (AnswersInput IsAnswer input) before after
-
--- the text answers these bytes, with what is told beside it
-abbrev pub IsAnswerWith : {B : Type 0} → (List ℕ → B → List ℕ → Type 0) → Option B → List ℕ → List ℕ → Type 0
-IsAnswerWith IsAnswer beside bytes text = IsSomeAnd beside (λ told. IsAnswer bytes told text)

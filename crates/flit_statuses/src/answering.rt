@@ -1,9 +1,9 @@
-ghost use Rattle.std.specs.Prelude.{◌≡◌, ◌≢◌, ◌≤◌, ◌↔◌, ℕ, List, [], Some, IsNone, IfOk, IfErr, IfSome, OnOk};
+ghost use Rattle.std.specs.Prelude.{◌≡◌, ◌≢◌, ◌≤◌, ℕ, List, [], Some, IfOk, IfErr, IfSome, OnOk};
 ghost use Rattle.flit_statuses.specs.declared.status.Status.{Status};
 ghost use Rattle.flit_statuses.specs.Statuses.{WritesNothing};
 ghost use Rattle.flit_statuses.specs.Reading.{LeavesInput, CountsReads, StopsBefore};
 ghost use Rattle.flit_statuses.specs.Writing.{WroteAt, CountsWrites};
-ghost use Rattle.flit_statuses.specs.Answers.{IsOfBytes, Blames, AnswersInput, WroteAnswer, IsAnswerWith};
+ghost use Rattle.flit_statuses.specs.Answers.{IsOfBytes, Blames, AnswersInput, WroteAnswer};
 
 use crate::status::Status;
 use flit_outside::{Sink, Source, read_input, write_all};
@@ -11,31 +11,20 @@ use std::alloc::Global;
 
 /// A command that reads an input and answers it by a text, with what it needs to do so.
 pub trait Answering {
-    /// What is told beside the text.
-    type Beside: Drop;
-
-    // The text answers an input of these bytes, with this beside it.
-    ghost IsAnswer: { Self → List ℕ → Self.Beside → List ℕ → Type 0 };
+    // The text answers an input of these bytes.
+    ghost IsAnswer: { Self → List ℕ → List ℕ → Type 0 };
 
     // An input of these bytes has no answer, for the reason that the status is.
     ghost HasNone: { List ℕ → Status → Type 0 };
 
-    /// The text that answers the input, and what is told beside it.
+    /// The text that answers the input.
     ///
     /// # Errors
     /// The status that says why there is none.
-    fn answer(&self, alloc: Global, input: Vec<u8>) -> Result<(Vec<u8>, Self::Beside), Status>
-        ensures answer { IfOk result (λ a. IsAnswer self.now input.items a.1 a.0.items) }
+    fn answer(&self, alloc: Global, input: Vec<u8>) -> Result<Vec<u8>, Status>
+        ensures answer { IfOk result (λ text. IsAnswer self.now input.items text.items) }
         ensures kind { IfErr result IsOfBytes }
         ensures none { IfErr result (HasNone input.items) };
-}
-
-/// How a command ended that was to answer an input.
-#[derive(Drop)]
-pub struct Answered<B: Drop> {
-    pub status: Status,
-    /// What is told beside the text: None exactly where the status says that nothing was written.
-    pub beside: Option<B>,
 }
 
 /// The answer of the input that the source has.
@@ -43,9 +32,9 @@ fn answer_of_source<A: Answering, S: Source>(
     answering: &A,
     alloc: Global,
     source: &mut S,
-) -> Result<(Vec<u8>, A::Beside), Status>
-    ensures text { IfOk result (λ a. AnswersInput
-        (λ bytes text. A.IsAnswer answering.now bytes a.1 text) (S.left source.old) a.0.items) }
+) -> Result<Vec<u8>, Status>
+    ensures text { IfOk result (λ text.
+        AnswersInput (A.IsAnswer answering.now) (S.left source.old) text.items) }
     ensures ended { OnOk result (IfSome (S.left source.old) (λ _. S.left source.new ≡ Some [])) }
     ensures steady { OnOk result (S.faults source.new ≡ S.faults source.old) }
     ensures stops { IfErr result StopsBefore }
@@ -72,8 +61,7 @@ pub fn write_output<K: Sink>(sink: &mut K, text: &[u8]) -> Status
     }
 }
 
-/// Reads the input, and writes the text that answers it. What is told beside the text is handed out where the text was
-/// written, the whole of it or a front.
+/// Reads the input, and writes the text that answers it.
 ///
 /// ReadFault comes first, then the limit on bytes (Limit at line 0), why there is no answer, and WriteFault. NoMemory may
 /// come in the place of each.
@@ -82,25 +70,18 @@ pub fn answer_input<A: Answering, S: Source, K: Sink>(
     alloc: Global,
     source: &mut S,
     sink: &mut K,
-) -> Answered<A::Beside>
-    ensures runs { result.status ≢ Status.Usage }
-    ensures blames { Blames A.HasNone result.status (S.left source.old) }
-    ensures leaves { IfSome (S.left source.old) (LeavesInput result.status (S.left source.new)) }
-    ensures read_faults { CountsReads result.status (S.faults source.old) (S.faults source.new) }
-    ensures wrote { WroteAnswer (IsAnswerWith (A.IsAnswer answering.now) result.beside)
-        result.status (S.left source.old) (K.taken sink.old) (K.taken sink.new) }
-    ensures beside { IsNone result.beside ↔ WritesNothing result.status }
-    ensures write_faults { CountsWrites result.status (K.faults sink.old) (K.faults sink.new) }
-    ensures unwritten { WritesNothing result.status → sink.new ≡ sink.old }
+) -> Status
+    ensures runs { result ≢ Status.Usage }
+    ensures blames { Blames A.HasNone result (S.left source.old) }
+    ensures leaves { IfSome (S.left source.old) (LeavesInput result (S.left source.new)) }
+    ensures read_faults { CountsReads result (S.faults source.old) (S.faults source.new) }
+    ensures wrote { WroteAnswer (A.IsAnswer answering.now) result
+        (S.left source.old) (K.taken sink.old) (K.taken sink.new) }
+    ensures write_faults { CountsWrites result (K.faults sink.old) (K.faults sink.new) }
+    ensures unwritten { WritesNothing result → sink.new ≡ sink.old }
 {
     match answer_of_source(answering, alloc, source) {
-        Ok((text, beside)) => Answered {
-            status: write_output(sink, &text),
-            beside: Some(beside),
-        },
-        Err(status) => Answered {
-            status,
-            beside: None,
-        },
+        Ok(text) => write_output(sink, &text),
+        Err(status) => status,
     }
 }

@@ -8,6 +8,6 @@ mod status;
 #[cfg(test)]
 mod tests;
 
-pub use answering::{Answered, Answering, answer_input, write_output};
+pub use answering::{Answering, answer_input, write_output};
 pub use lines::{FaultLine, fault_line};
 pub use status::{ImageFault, Status};

@@ -1,2 +1,1 @@
-pub mod CompleteLaws
 pub mod StepLaws

@@ -2,7 +2,6 @@
 use Rattle.std.proofs.Common.{◌≡◌, ◌≢◌, ℕ, List, Option, Some, None, refl, sym, ap, ◌∙◌, subst}
 use Rattle.flit_commands.specs.declared.commands.Command.{Command}
 use Rattle.flit_commands.specs.declared.commands.Command.TheVariants.{Step}
-use Rattle.flit_commands.specs.declared.commands.StepOption.{StepOption}
 use Rattle.flit_commands.specs.declared.commands.StepOption.TheVariants.{Events as Events_option, Summary as Summary_option, Image as Image_option, Detect}
 use Rattle.flit_commands.specs.CommandWords.{said_by}
 use Rattle.flit_commands.proofs.CommandLaws.{no_two}

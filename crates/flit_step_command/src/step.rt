@@ -7,9 +7,9 @@ ghost use Rattle.flit_statuses.specs.Reading.{LeavesInput, CountsReads};
 ghost use Rattle.flit_statuses.specs.Writing.{CountsWrites};
 ghost use Rattle.flit_statuses.specs.Answers.{IsOfBytes, Blames};
 ghost use Rattle.flit_structures.specs.Refusals.{HasNoReport};
+ghost use Rattle.flit_structures.specs.RightTraces.{CanComplete};
 ghost use Rattle.flit_structures.specs.Texts.{IsTextOf};
 ghost use Rattle.flit_step_command.specs.Stepping.{words_for, NamesNoStep, WroteWanted};
-ghost use Rattle.flit_step_command.specs.Completeness.{CanComplete};
 
 use flit_commands::Words;
 use flit_outside::{Sink, Source};
@@ -59,18 +59,16 @@ impl Answering for Stepping {
     ghost use Rattle.flit_structures.specs.Refusals.{HasNoReport};
     ghost use Rattle.flit_structures.specs.Texts.{IsTextOf};
 
-    type Beside = ();
-
-    ghost IsAnswer = { λ stepping bytes _ text. IsTextOf bytes stepping.wanted text };
+    ghost IsAnswer = { λ stepping bytes text. IsTextOf bytes stepping.wanted text };
 
     ghost HasNone = { HasNoReport };
 
-    fn answer(&self, alloc: Global, input: Vec<u8>) -> Result<(Vec<u8>, ()), Status>
-        ensures answer { IfOk result (λ a. IsTextOf input.items self.now.wanted a.0.items) }
+    fn answer(&self, alloc: Global, input: Vec<u8>) -> Result<Vec<u8>, Status>
+        ensures answer { IfOk result (λ text. IsTextOf input.items self.now.wanted text.items) }
         ensures kind { IfErr result IsOfBytes }
         ensures none { IfErr result (HasNoReport input.items) }
     {
-        Ok((text_of_bytes(alloc, &input, self.wanted)?, ()))
+        text_of_bytes(alloc, &input, self.wanted)
     }
 }
 
@@ -104,7 +102,7 @@ pub fn flit_step<S: Source, K: Sink>(
     ensures write_faults { CountsWrites result (K.faults sink.old) (K.faults sink.new) }
     ensures unwritten { WritesNothing result → sink.new ≡ sink.old }
 
-    ensures completes { CanComplete words.now (S.left source.old)
+    ensures completes { CanComplete words_for words.now (S.left source.old)
         (S.faults source.old) (S.faults source.new) (K.faults sink.old) (K.faults sink.new)
         → (result ≡ Status.Done) ⊎ (result ≡ Status.NoMemory) }
 {
@@ -112,5 +110,5 @@ pub fn flit_step<S: Source, K: Sink>(
     let Some(wanted) = wanted_by(words) else {
         return Status::Usage;
     };
-    answer_input(&Stepping { wanted }, alloc, source, sink).status
+    answer_input(&Stepping { wanted }, alloc, source, sink)
 }

@@ -1,4 +1,4 @@
-use Rattle.flit_run_command.proofs.CompleteLaws.{completes}
+use Rattle.flit_structures.proofs.CompleteLaws.{completes}
 use Rattle.flit_run_command.proofs.RunLaws.{wrote_wanted}
 use Rattle.flit_run_command.proofs.run.flit_run.Goals as goal
 
@@ -13,7 +13,7 @@ returns-clause-wrote g c = wrote_wanted _ _ c.in-Some.wanted _ _ _ _ c.in-Some.e
 
 pub returns-clause-completes : goal.returns-clause-completes
 returns-clause-completes g c = λ can.
-    completes c.right_traces_are_answered.ensures _ _ _ _ _ _ can _ (λ is. absurd (c.run_input.ensures.runs is)) c.run_input.ensures.blames
+    completes c.right_traces_are_answered.ensures _ _ _ _ _ _ _ can _ (λ is. absurd (c.run_input.ensures.runs is)) c.run_input.ensures.blames
     c.run_input.ensures.read_faults c.run_input.ensures.write_faults
 
 pub returns-in_default-clause-completes : goal.returns-in_default-clause-completes
