@@ -50,6 +50,7 @@ fn items_are_right(rt: &impl Abort, layout: &Layout, items: &[Item])
     }
 }
 
+/// Sees that each item of these works is right for the layout, and that no work has too many; else the test ends here.
 pub fn works_are_right(rt: &impl Abort, layout: &Layout, works: &[Work])
     requires { Accepted layout.now }
     ensures right { AllByRecursion (λ w. AllByRecursion (IsRightItem layout.now) w.items.items)

@@ -84,8 +84,10 @@ pub fn run_recovered<
     requires first { IsFirst (meaning_of S.meaning running) running.origin pass }
     requires works { AreRight (meaning_of S.meaning running).layout
         (meaning_of S.meaning running).layout.workers works.items }
-    ensures { IfOk result (λ r. HasRecovered (meaning_of S.meaning running) running.origin
+    ensures recovered { IfOk result (λ r. HasRecovered (meaning_of S.meaning running) running.origin
         works.items (map (λ os. os.items) r.0.outcomes.items) (told_by r.0.told) r.1) }
+    ensures image { IfOk result (λ r. (told_by r.0.told).image ≡ r.0.image) }
+    ensures ahead { IfOk result (λ r. (told_by r.0.told).ahead ≡ ahead.now) }
 {
     let ran = run_told(rt, alloc, running, pass, works, ahead, gate)?;
     let found = recover_lawful(alloc, &ran.image)?;
