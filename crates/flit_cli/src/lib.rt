@@ -3,6 +3,12 @@
 
 mod dispatch;
 #[cfg(test)]
+mod large_tests;
+#[cfg(test)]
+mod replays;
+#[cfg(test)]
+mod stop_tests;
+#[cfg(test)]
 mod tests;
 
 pub use dispatch::flit;
