@@ -1,14 +1,16 @@
 #!/usr/bin/env python3
 """Runs `flit run --summary` beside `flit step --summary` and plain C++ programs on the same traces, and prints ratios.
 
-    bench/bench.py [--rounds N] [--program PATH] [--calls N]
+    bench/bench.py [--rounds N] [--program PATH] [--calls N] [--instructions]
 
 Each program of this folder is built with g++ -O3 into a folder of its own, which is removed at the end. Where a library isn't
 installed, or the program doesn't know a command yet, a line says so, and it is left out. Every program is run once a round,
-one after the other, so that what else the machine does falls on all alike; of its rounds the least time counts.
+one after the other, so that what else the machine does falls on all alike; of its rounds the least time counts. With
+--instructions the program and the twin are counted by callgrind instead, which tells the same on a machine under load.
 """
 import argparse
 import os
+import re
 import shutil
 import subprocess
 import sys
@@ -126,6 +128,29 @@ def growth(title, found):
         print('| %s | %s |' % (name, ' | '.join(cells)))
 
 
+def instructions(words, trace):
+    """How many instructions a run takes, by callgrind."""
+    run = Timed(['valgrind', '--tool=callgrind', '--callgrind-out-file=/dev/null'] + words, trace)
+    counted = re.search(rb'Collected : (\d+)', run.errors)
+    if run.status or not counted:
+        note('not counted: %s: %s' % (words[0], run.errors.decode(errors='replace')[-300:]))
+        sys.exit(1)
+    return int(counted.group(1)), run.output
+
+
+def count(title, traces, commands):
+    """The instructions of `flit run` and of the twin, and their ratio."""
+    print('\n%s' % title)
+    print('| trace | flit run, millions | twin, millions | to the twin |')
+    print('|---|---|---|---|')
+    for label, trace in traces:
+        (ours, told), (plain, counts) = [instructions(commands[name], trace) for name in ('flit run', 'twin')]
+        if told != counts:
+            note('the summaries differ on %s' % os.path.basename(trace))
+            sys.exit(1)
+        print('| %s | %.0f | %.0f | %.2f |' % (label, ours / 1e6, plain / 1e6, ours / plain), flush=True)
+
+
 def knows(program, words, trace):
     return Timed([program] + words, trace).status == 0
 
@@ -135,6 +160,7 @@ def main():
     parser.add_argument('--rounds', type=int, default=5, help='how often each is run; the least time counts')
     parser.add_argument('--program', help='the built program; without it ./flit builds it')
     parser.add_argument('--calls', type=int, default=500000, help='calls of the largest trace')
+    parser.add_argument('--instructions', action='store_true', help='count `flit run` and the twin by callgrind, a quarter of the calls')
     given = parser.parse_args()
     program = built_program(given.program)
     folder = tempfile.mkdtemp(prefix='flit_bench_')
@@ -149,6 +175,10 @@ def main():
         commands.update(build_plain(folder))
         trace = lambda calls, keys, workers: make_trace(program, folder, calls, keys, workers)
         n = given.calls
+        if given.instructions:
+            count('Instructions, %d calls for 8 workers' % (n // 4), [
+                ('%d keys a worker' % keys, trace(n // 4, keys, 8)) for keys in (32768, 1024)], commands)
+            return
         print('%d processors; %d rounds, least times; seed %d' % (os.cpu_count(), given.rounds, SEED))
         long = table('Long lists (32768 keys a worker, 8 workers): N and 2N', [
             ('N = %d' % (n // 2), trace(n // 2, 32768, 8)), ('N = %d' % n, trace(n, 32768, 8))], commands, given.rounds)
