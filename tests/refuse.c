@@ -1,6 +1,6 @@
 /* Refuses growths of a program that this is preloaded into. Each call of malloc and realloc that the program itself makes
    is counted from 1; those of the C library, as for a thread's stack, are not. Call REFUSE_FROM and those behind it, up to
-   REFUSE_TO, answer NULL. At the end the count is written to the file that REFUSE_COUNT names. */
+   REFUSE_TO, answer NULL. At the end, be it by `_exit`, the count is written to the file that REFUSE_COUNT names. */
 #define _GNU_SOURCE
 #include <elf.h>
 #include <errno.h>
@@ -10,6 +10,8 @@
 #include <stdio.h>
 #include <stdlib.h>
 #include <sys/auxv.h>
+#include <sys/syscall.h>
+#include <unistd.h>
 
 extern void *__libc_malloc(size_t);
 extern void *__libc_realloc(void *, size_t);
@@ -49,6 +51,12 @@ __attribute__((destructor)) static void write_count(void) {
     return;
   fprintf(file, "%lu\n", atomic_load(&calls));
   fclose(file);
+}
+
+void _exit(int status) {
+  write_count();
+  for (;;)
+    syscall(SYS_exit_group, status);
 }
 
 static int is_refused(void *caller) {

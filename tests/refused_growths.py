@@ -1,8 +1,10 @@
 #!/usr/bin/env python3
 """Refuses each allocation of the program in turn: it ends with status 8 and has written nothing.
 
-Runs crates/flit/out/flit, which `./flit` builds first where it must, over small inputs with each command and option. Each
-run is first made whole, which counts its allocations; then once for each of them, with that one refused, and once more
+    tests/refused_growths.py [PROGRAM]
+
+Runs PROGRAM, or else crates/flit/out/flit, which `./flit` builds first where it must, over small inputs with each command
+and option. Each run is first made whole, which counts its allocations; then once for each of them, with that one refused, and once more
 with it and all behind it refused. A block that is to become smaller, and can't, is kept as it is: there the program ends
 well, with the same text. It prints a line for each run that was made whole, and each refusal that ended otherwise. The
 status is 0 where there was none.
@@ -17,7 +19,7 @@ import sys
 import tempfile
 
 TOP = pathlib.Path(__file__).resolve().parent.parent
-PROGRAM = TOP / "crates/flit/out/flit"
+BUILT = TOP / "crates/flit/out/flit"
 NO_MEMORY = 8
 FAR = 2**63
 
@@ -75,7 +77,8 @@ MAKES = [["make", "7", "3", "16", "2"], ["make", "0", "40", "1", "1"], ["make", 
 class Refusing:
     """The program with the library that refuses, and a folder for what it counts."""
 
-    def __init__(self, folder):
+    def __init__(self, program, folder):
+        self.program = program
         self.library = folder / "refuse.so"
         self.count = folder / "count"
         compiler = os.environ.get("CC", "cc")
@@ -87,7 +90,7 @@ class Refusing:
         self.count.unlink(missing_ok=True)
         refused = {"REFUSE_FROM": str(first), "REFUSE_TO": str(last), "REFUSE_COUNT": str(self.count)}
         ended = subprocess.run(
-            [PROGRAM, *words],
+            [self.program, *words],
             input=text,
             capture_output=True,
             timeout=60,
@@ -136,12 +139,17 @@ def cases(refusing):
         yield " ".join(words), words, b""
 
 
-def main():
+def built_program():
     if subprocess.run([TOP / "flit", "make", "7", "3", "16", "2"], stdout=subprocess.DEVNULL).returncode != 0:
         sys.exit("the program isn't built")
+    return BUILT
+
+
+def main():
+    program = pathlib.Path(sys.argv[1]).resolve() if len(sys.argv) > 1 else built_program()
     ends = []
     with tempfile.TemporaryDirectory() as folder:
-        refusing = Refusing(pathlib.Path(folder))
+        refusing = Refusing(program, pathlib.Path(folder))
         for case in cases(refusing):
             ends.append(refuse_each(refusing, *case))
     refused, well, wrong = map(sum, zip(*ends))
