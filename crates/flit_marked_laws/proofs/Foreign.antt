@@ -38,7 +38,7 @@ use Rattle.flit_list_tries.specs.ListTries.{list_limits}
 use Rattle.flit_list_tries.proofs.Tries.{lists_keep_bounds}
 use Rattle.flit_list_structure.specs.ListStructure.{lists}
 use Rattle.flit_list_structure.proofs.Lawfulness.{list_lawful, list_wrappable}
-use Rattle.flit_marked_laws.specs.Marked.{MayBeStored, GoesOn}
+use Rattle.flit_marked_laws.specs.Marked.{MayStoreForeign, GoesOn}
 
 module _ (l : Layout) (p : Place) (free : List ℕ) (chains : IsOfLists l) where
   abbrev S : Meaning HeldOp
@@ -102,7 +102,7 @@ module _ (l : Layout) (p : Place) (free : List ℕ) (chains : IsOfLists l) where
       none_some : (n : ℕ) → ◌≡◌ {A = Option ℕ} None (Some n) → ⊥
       none_some n e = cc
 
-  pub stored_foreign : (M : Moment HeldOp) (row word to : ℕ) → S.holds M → MayBeStored l M.opening M.state row word to →
+  pub stored_foreign : (M : Moment HeldOp) (row word to : ℕ) → S.holds M → MayStoreForeign l M.opening M.state row word to →
       GoesOn S M (record M { state = after M.state (Store word to) })
   stored_foreign M row word to holds may =
       let k = holds.0 in

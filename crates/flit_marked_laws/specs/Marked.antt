@@ -26,7 +26,7 @@ use Rattle.flit_crew.specs.Heaps.{IsForeign, IsWordOf}
 use Rattle.flit_list_heap.specs.Keeping.{IsReached}
 
 -- a Store of the next version, untagged, to a word of a foreign row whose version is persistent
-pub record MayBeStored (l : Layout) (o : Opening) (m : State) (row word to : ℕ) : Type 0 where
+pub record MayStoreForeign (l : Layout) (o : Opening) (m : State) (row word to : ℕ) : Type 0 where
   pub foreign : IsForeign l o.free o row
   pub of : IsWordOf l row word
   pub persistent : version_of (word_at m word) ≡ version_of (shadow_at m word)
@@ -124,7 +124,7 @@ module _ {Op : Type 0} (meaning : Meaning Op) (row_of : Op → ℕ) where
   -- The laws. By row_of an operation tells the row that its Exchange links or marks.
   pub record MarkedLaws : Type 0 where
     -- others may store words of foreign rows, and write them back
-    pub stored_foreign : (M : Moment Op) (row word to : ℕ) → meaning.holds M → MayBeStored meaning.layout M.opening M.state row word to →
+    pub stored_foreign : (M : Moment Op) (row word to : ℕ) → meaning.holds M → MayStoreForeign meaning.layout M.opening M.state row word to →
         GoesOn meaning M (record M { state = after M.state (Store word to) })
     pub persisted_foreign : (M : Moment Op) (row word : ℕ) → meaning.holds M → IsForeign meaning.layout M.opening.free M.opening row →
         IsWordOf meaning.layout row word →
