@@ -1,5 +1,5 @@
 -- Others store and write back words of foreign rows: all goes on.
-use Rattle.std.proofs.Common.{◌≡◌, ◌≢◌, ⊎_elim, ℕ, ◌+◌, ◌<◌, ◌≤◌, Bool, true, false, List, Option, Some, None, cond, slice_index, refl, sym, ◌∙◌, ap, subst, arith}
+use Rattle.std.proofs.Common.{◌≡◌, ◌≢◌, ⊎_elim, ℕ, ◌+◌, ◌<◌, ◌≤◌, Bool, true, false, List, Option, Some, None, cond, slice_index, refl, sym, ◌∙◌, ap, subst, arith, eqb-true}
 use Rattle.std.specs.Prelude.{Contains, nat_lt}
 use Rattle.std.specs.FinMap as fin
 use Rattle.flit_words.specs.declared.layouts.Layout.{Layout}
@@ -16,6 +16,7 @@ use Rattle.flit_model.specs.declared.events.Event.TheVariants.{Store}
 use Rattle.flit_model.proofs.Shapes.{recovered_rows}
 use Rattle.flit_place.specs.Tags.{Place}
 use Rattle.flit_place.proofs.CoverSteps.{index-set}
+use Rattle.flit_place.proofs.WordTags.{version-bare}
 use Rattle.flit_structure.specs.Moments.{Moment, IsAmong, busy}
 use Rattle.flit_structure.specs.Meanings.{Meaning, writing_back}
 use Rattle.flit_crew.specs.Heaps.{heap_of, IsOpen, IsWordOf, IsForeign}
@@ -63,7 +64,8 @@ module _ (l : Layout) (p : Place) (free : List ℕ) (chains : IsOfLists l) where
 
     among : Contains k.stranger.private word
     among = k.outside.all row word (subst (λ rows. Contains rows row)
-        (recovered_rows l M.opening.words M.opening.content M.opening.content foreign.rows k.opening.free foreign.recovers k.opening.recovers) foreign.unreached)
+        (recovered_rows l M.opening.words M.opening.content M.opening.content foreign.rows k.opening.free foreign.recovers k.opening.recovers)
+        foreign.unreached)
         outside of
 
     below : word < words_of l
@@ -126,3 +128,29 @@ module _ (l : Layout) (p : Place) (free : List ℕ) (chains : IsOfLists l) where
     where
       level : (a b : ℕ) → a ≡ b → a ≤ b
       level a b e = omega (arith, e)
+
+  -- a word isn't stored over before it is persistent
+  pub second_breaks : (M : Moment HeldOp) (word to : ℕ) → S.holds M → word < words_of l →
+      version_of (word_at M.state word) ≡ version_of (shadow_at M.state word) + 1 → version_of to ≡ version_of (word_at M.state word) + 1 →
+      S.holds (record M { state = after M.state (Store word to) }) → ⊥
+  second_breaks M word to holds low ahead next now = ⊎_elim
+      (λ same. two (version_of (shadow_at M.state word)) (version_of (word_at M.state word)) (version_of (word_at t word)) ahead further
+      (sym (version-bare (word_at t word)) ∙ ap version_of same))
+      (λ one. three (version_of (shadow_at M.state word)) (version_of (word_at M.state word)) (version_of (word_at t word)) ahead further
+      (eqb-true (version_of (word_at t word)) (version_of (shadow_at M.state word) + 1) one))
+      ((list_lawful l p free chains).near (record M { state = t }) word now low).near
+    where
+      t : State
+      t = after M.state (Store word to)
+
+      stored : word_at t word ≡ to
+      stored = ⊎_elim (λ q. q.1) (λ q. absurd (q.0 refl)) (index-set M.state.words word to word (subst (λ n. word < n) (sym holds.0.words) low))
+
+      further : version_of (word_at t word) ≡ version_of (word_at M.state word) + 1
+      further = ap version_of stored ∙ next
+
+      two : (s w n : ℕ) → w ≡ s + 1 → n ≡ w + 1 → n ≡ s → ⊥
+      two s w n e f g = omega (arith, e, f, g)
+
+      three : (s w n : ℕ) → w ≡ s + 1 → n ≡ w + 1 → n ≡ s + 1 → ⊥
+      three s w n e f g = omega (arith, e, f, g)

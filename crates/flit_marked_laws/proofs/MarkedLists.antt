@@ -1,5 +1,5 @@
 -- Lists and hash tables keep the laws of marked structures.
-use Rattle.flit_marked_laws.specs.ListMarks.{ListsAreMarked}
+use Rattle.flit_marked_laws.specs.ListMarks.{ListsAreMarked, SecondStoresBreak}
 use Rattle.flit_marked_laws.proofs.Foreign as foreign
 use Rattle.flit_marked_laws.proofs.Naming as naming
 use Rattle.flit_marked_laws.proofs.Remainders as remainders
@@ -16,3 +16,6 @@ lists_are_marked l p free chains = record {
   shown = λ row M o picks since. showing.shown l p free chains row M picks o since;
   marked = λ row name M o picks values since. remainders.marked l p free chains values row name M picks o since;
 }
+
+pub second_stores_break : SecondStoresBreak
+second_stores_break l p free chains = foreign.second_breaks l p free chains
