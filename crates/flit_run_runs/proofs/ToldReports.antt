@@ -121,20 +121,27 @@ module _ (t : Content) (start : Recovered) (k : Known) (outcomes : List (List Ou
     map_is = (end_map start k, map_told image same);
   }
 
+  -- a worker has as many outcomes as calls
+  pub as_many_told : (worker : ℕ) → IsWorkerOf t worker → length (outcomes_at outcomes worker) ≡ length (calls_in (items_in t worker))
+  as_many_told worker own =
+      as_many t k worker (made_by worker k.mine) (left_by t k worker) (outcomes_at outcomes worker) (tells.run.workers worker own).items
+      (tells.are_outcomes worker own).replies
+
   module _ (lines : List Line) (calls : TellsCalls t outcomes lines) where
     outcomes_printed : (worker : ℕ) → IsWorkerOf t worker → AreOutcomesOf t k worker (outcomes_by worker lines)
     outcomes_printed worker own =
-        let o = tells.are_outcomes worker own in
-        let r = tells.run.workers worker own in
-        let long = as_many t k worker (made_by worker k.mine) (left_by t k worker) (outcomes_at outcomes worker) r.items o.replies in
-        subst (AreOutcomesOf t k worker) (sym (calls.each worker own long)) o
+        subst (AreOutcomesOf t k worker) (sym (calls.each worker own (as_many_told worker own))) (tells.are_outcomes worker own)
+
+    -- each line is of one of the trace's workers
+    pub lines_of_workers : AllByRecursion (IsRightLine t.head.layout) t.items → AllByRecursion (λ l. IsWorkerOf t l.worker) lines
+    lines_of_workers right =
+        lines_named (IsWorkerOf t) lines (subst (AllByRecursion (λ c. IsWorkerOf t c.0)) (sym calls.calls) (calls_named t.head.layout t.items right))
 
     bounds_printed : AllByRecursion (IsRightLine t.head.layout) t.items →
         AllByRecursion (λ l. IsPrintedWithin t.head.layout (start_room start) k l.outcome) lines
     bounds_printed right =
         let P = IsPrintedWithin t.head.layout (start_room start) k in
-        all_printed P (IsWorkerOf t) lines
-        (lines_named (IsWorkerOf t) lines (subst (AllByRecursion (λ c. IsWorkerOf t c.0)) (sym calls.calls) (calls_named t.head.layout t.items right)))
+        all_printed P (IsWorkerOf t) lines (lines_of_workers right)
         (λ worker own. subst (AllByRecursion P) (sym (outcomes_printed worker own).replies)
         (outcomes_within t.head.layout (start_room start) k (answered (made_by worker k.mine)) (length (calls_in (left_by t k worker)))
         (all_answered (λ e. IsWithinTold t.head.layout (start_room start) k e.reply) (λ x. name_of x == worker) k.mine tells.run.bounds)))

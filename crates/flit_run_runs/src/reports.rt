@@ -50,7 +50,7 @@ pub fn report_of_threads<
         told,
     } = ran;
     let lines = lines_of_calls(alloc, trace, outcomes.as_slice())?;
-    let report = tell(alloc, &trace.head().layout, lines, &image, summary)?;
+    let report = tell(alloc, &trace.head().layout, lines, image, summary)?;
     Ok((report, told))
 }
 

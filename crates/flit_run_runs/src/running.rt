@@ -1,4 +1,6 @@
-ghost use Rattle.std.specs.Prelude.{◌≡◌, IfOk, map};
+ghost use Rattle.std.specs.Prelude.{◌≡◌, ◌≤◌, IfOk, length, map};
+ghost use Rattle.std.specs.List.{flat_map};
+ghost use Rattle.flit_words.specs.declared.limits.TheConstants.{MOST_CALLS};
 ghost use Rattle.flit_table.specs.Closing.{told_by};
 ghost use Rattle.flit_trace.specs.Contents.{Content};
 ghost use Rattle.flit_trace.specs.SeenTraces.{Shows};
@@ -33,6 +35,8 @@ pub fn run_trace<S: Structure<Op: Send> + Send + Sync, G: Gate + Sync, R: Thread
         CanRun (S.meaning structure) start.now t → TellsTrace t start.now (told_by r.told)
         (map (λ os. os.items) r.outcomes.items)) }
     ensures image { IfOk result (λ r. (told_by r.told).image ≡ r.image) }
+    ensures few { IfOk result (λ r.
+        length (flat_map (λ os. os.items) r.outcomes.items) ≤ MOST_CALLS) }
 {
     promises_tell_traces::<S>();
     let works = works_of(alloc, trace)?;

@@ -1,4 +1,4 @@
-ghost use Rattle.std.specs.Prelude.{◌≡◌, IfOk};
+ghost use Rattle.std.specs.Prelude.{◌≡◌, true, false, IfOk};
 ghost use Rattle.flit_model.specs.Recovery.{IsRecovery};
 ghost use Rattle.flit_table.specs.Closing.{told_by};
 ghost use Rattle.flit_structures.specs.Reports.{WasRead};
@@ -17,7 +17,7 @@ use flit_place::{Adjacent, Placement};
 use flit_recover::Recovered;
 use flit_report::report_text;
 use flit_rows::Pool;
-use flit_run_runs::{image_of_threads, report_of_threads};
+use flit_run_runs::{image_of_threads, report_of_threads, summary_of_threads};
 use flit_sched::recovered_opens;
 use flit_structure::Structure;
 use flit_table::Told;
@@ -47,16 +47,31 @@ fn report_text_on<S: Structure<Op: Send> + Send + Sync, G: Gate + Sync, R: Threa
     structure: S,
     start: &Recovered,
     trace: &Trace,
-    summary: bool,
     gate: &G,
 ) -> Result<(Vec<u8>, Told), NoMemory>
     requires can { CanRunSeen (S.meaning structure) start.now trace.now }
-    ensures { IfOk result (λ r. IsReportSeen (S.meaning structure) trace.now start.now summary
+    ensures { IfOk result (λ r. IsReportSeen (S.meaning structure) trace.now start.now false
         (told_by r.1) r.0.items) }
 {
-    let ran = report_of_threads(rt, alloc, structure, start, trace, summary, gate)?;
+    let ran = report_of_threads(rt, alloc, structure, start, trace, false, gate)?;
     let text = report_text(alloc, &ran.0)?;
     Ok((text, ran.1))
+}
+
+/// The text of the summary of that report, which isn't made, and what is told of the run. The error is NoMemory alone.
+fn summary_text_on<S: Structure<Op: Send> + Send + Sync, G: Gate + Sync, R: Threads + Wait + Sync>(
+    rt: &R,
+    alloc: Global,
+    structure: S,
+    start: &Recovered,
+    trace: &Trace,
+    gate: &G,
+) -> Result<(Vec<u8>, Told), NoMemory>
+    requires can { CanRunSeen (S.meaning structure) start.now trace.now }
+    ensures { IfOk result (λ r. IsReportSeen (S.meaning structure) trace.now start.now true
+        (told_by r.1) r.0.items) }
+{
+    summary_of_threads(rt, alloc, structure, start, trace, gate)
 }
 
 /// The text of the image at the end of a run of a trace on threads, and what is told of the run. The error is NoMemory
@@ -94,8 +109,8 @@ fn text_on<S: Structure<Op: Send> + Send + Sync, G: Gate + Sync, R: Threads + Wa
     ensures { IfOk result (λ r. IsWantedSeen wanted trace.now (told_by r.1) r.0.items) }
 {
     match wanted {
-        Wanted::Report => report_text_on(rt, alloc, structure, start, trace, false, gate),
-        Wanted::Summary => report_text_on(rt, alloc, structure, start, trace, true, gate),
+        Wanted::Report => report_text_on(rt, alloc, structure, start, trace, gate),
+        Wanted::Summary => summary_text_on(rt, alloc, structure, start, trace, gate),
         Wanted::Image => image_text_on(rt, alloc, structure, start, trace, gate),
     }
 }

@@ -81,7 +81,7 @@ module _ (m : List Line → ℕ) (none : m [] ≡ 0) (joined : (xs ys : List Lin
         above a low apart (inl less) = omega (arith, less)
         above a low apart (inr le) = absurd (apart (omega (arith, low, le)))
 
-    within : (a n : ℕ) → a ≤ w → w < a + n → m (flat_map f (range_with_len a n)) ≡ m t + m (flat_map g (range_with_len a n))
+    pub within : (a n : ℕ) → a ≤ w → w < a + n → m (flat_map f (range_with_len a n)) ≡ m t + m (flat_map g (range_with_len a n))
     within a zero low high = absurd (omega (arith, low, high))
     within a (suc n) low high = here_if a n (a == w) refl low (λ le. within (a + 1) n le (omega (arith, high)))
 

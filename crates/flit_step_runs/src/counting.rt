@@ -56,7 +56,7 @@ fn is_worn(outcome: Outcome) -> bool
 }
 
 /// The counts of no lines.
-fn none() -> Counts
+pub fn no_lines() -> Counts
     ensures counts { AreCountsOf result [] }
     ensures calls { result.calls ≡ 0 }
 {
@@ -70,7 +70,7 @@ fn none() -> Counts
 }
 
 /// These counts, and one line more.
-fn with_line(counts: Counts, outcome: Outcome) -> Counts
+pub fn with_line(counts: Counts, outcome: Outcome) -> Counts
     requires counts { (lines : List Told_line) × AreCountsOf counts lines }
     requires room { counts.calls < 2 ^ 32 }
     ensures counts { (lines : List Told_line) (line : Told_line) → line.outcome ≡ outcome →
@@ -141,7 +141,7 @@ pub fn counts_of<S: Structure>(sched: &Sched<S>, trace: &Trace) -> Counts
         AreCountsOf result (told_lines sched.now.run [] t.items) }
 {
     let workers = trace.head().layout.workers;
-    let mut counts = none();
+    let mut counts = no_lines();
     for before in 0..workers {
         let worker = before + 1;
         counts = with_script(sched, worker, trace.script(worker), counts);

@@ -39,7 +39,7 @@ fn write_counts(out: &mut String, counts: Counts, keys: usize) -> Result<(), All
 
 /// The text of the summary of a report that has so many calls and keys. The error is NoMemory alone.
 #[tactic(auto, unfolding(flit_report::specs::Content::text_of))]
-fn summary_of(alloc: Global, counts: Counts, keys: usize) -> Result<Vec<u8>, NoMemory>
+pub fn summary_of(alloc: Global, counts: Counts, keys: usize) -> Result<Vec<u8>, NoMemory>
     ensures { IfOk result (λ text. (told : Told) → told.summary ≡ true →
         AreCountsOf counts told.lines → keys ≡ length told.keys →
         text.items ≡ text_of told) }

@@ -1,6 +1,7 @@
 use Rattle.std.proofs.Common.{map, subst, sym}
 use Rattle.flit_workers.specs.Ends.{AreRight}
 use Rattle.flit_table.specs.Passes.{IsFirst}
+use Rattle.flit_run_runs.proofs.CountedOutcomes.{few_outcomes}
 use Rattle.flit_run_runs.proofs.Opened.{right_works, told_of_trace}
 use Rattle.flit_run_runs.proofs.running.run_trace.Goals as goal
 
@@ -24,3 +25,14 @@ returns-clause-told g c = λ t shows can.
     told_of_trace g.S.Structure.meaning c.in_ok-running.running c.args.structure c.args.start.now t c.in_ok-works.works.items
     (map (λ os. os.items) c.in_ok-ran.ran.outcomes.items) _ c.promises_tell_traces.ensures c.in_ok-running.ensures.origin.0
     c.in_ok-running.ensures.origin.1 can (c.in_ok-works.ensures t shows) c.in_ok-ran.ensures.ahead c.in_ok-ran.ensures.told
+
+pub returns-clause-few : goal.returns-clause-few
+returns-clause-few g c =
+    let t = c.requires.0 in
+    let can = c.requires.2 in
+    let works = c.in_ok-works.works.items in
+    let are = c.in_ok-works.ensures t c.requires.1 in
+    few_outcomes t c.args.start.now _ c.in_ok-ran.ran.outcomes.items
+    (told_of_trace g.S.Structure.meaning c.in_ok-running.running c.args.structure c.args.start.now t works
+    (map (λ os. os.items) c.in_ok-ran.ran.outcomes.items) _ c.promises_tell_traces.ensures c.in_ok-running.ensures.origin.0
+    c.in_ok-running.ensures.origin.1 can are c.in_ok-ran.ensures.ahead c.in_ok-ran.ensures.told) works are (can.plays.starts works are).right.most

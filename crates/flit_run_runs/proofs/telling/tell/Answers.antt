@@ -7,12 +7,12 @@ use Rattle.flit_run_runs.proofs.telling.tell.Goals as goal
 pub count_rows-free-requires : goal.count_rows-free-requires
 count_rows-free-requires c =
     rw c.deref.ensures.value
-    (free_few (layout_of c.args.image.now) c.args.image.now.words.items c.in_ok-found.found.keys.items c.in_ok-found.found.values.items
+    (free_few (layout_of c.args.image) c.args.image.words.items c.in_ok-found.found.keys.items c.in_ok-found.found.values.items
     c.in_ok-found.found.free.items c.in_ok-found.ensures.recovery)
 
 pub returns-clause-found : goal.returns-clause-found
 returns-clause-found c =
-    let i = c.args.image.now in
+    let i = c.args.image in
     let found = c.in_ok-found.found in
     record {
       version = c.version_of.ensures;
