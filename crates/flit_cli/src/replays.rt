@@ -30,6 +30,7 @@ pub fn written<R: AllocGlobal + Threads + Wait + Sync>(
     }
 }
 
+/// What a call of a set of keys asks for.
 #[derive(Clone, Copy, PartialEq, Eq)]
 pub enum Kind {
     Insert,
