@@ -30,7 +30,7 @@ module _ {Op : Type 0} (meaning : Meaning Op) where
         MayStart meaning.layout hand call → HoldsWith meaning M a (idle name number hand) b → BeginsWith hand.tally (tally meaning (meaning.begun hand call))
     pub tallies : (M : Moment Op) (a : List (Worker Op)) (name number : ℕ) (op : Op) (call : Call) (begun : Option ℕ) (b : List (Worker Op)) (e : Event) →
         meaning.asked op ≡ Some e → HoldsWith meaning M a (busy name number op call begun) b →
-        GrowsTo (tally meaning op) (tally meaning (meaning.taken op (answer M.state e)))
+        GrowsTo e (tally meaning op) (tally meaning (meaning.taken op (answer M.state e)))
     pub licensed_first : (M : Moment Op) (a : List (Worker Op)) (name number : ℕ) (hand : Hand) (call : Call) (b : List (Worker Op)) →
         MayStart meaning.layout hand call → HoldsWith meaning M a (idle name number hand) b →
         meaning.licensed (with_workers M (a ++ busy name (number + 1) (meaning.begun hand call) call None ∷ b)) (meaning.begun hand call) hand.tally 0

@@ -20,7 +20,7 @@ use Rattle.flit_pv.specs.Tallies.{IsTally}
 use Rattle.flit_pv.proofs.OneEvent.{tallies_within}
 use Rattle.flit_structure.specs.declared.workers.Worker.{Worker}
 use Rattle.flit_structure.specs.Moments.{Moment, with_workers, busy}
-use Rattle.flit_structure.specs.Lawful.{GrowsTo, IsBelowTop, AreSearchesBounded, excuses, events_of_try}
+use Rattle.flit_structure.specs.Lawful.{GrowsTo, IsBelowTop, AreSearchesBounded, is_persist, excuses, events_of_try}
 use Rattle.flit_crew.specs.Machines.{Machine, machine_asks, machine_takes, hand_in, has_ended}
 use Rattle.flit_crew.specs.Anatomies.{Anatomy, gone_by, op_taken}
 use Rattle.flit_crew.specs.Accounts.{IsPool}
@@ -54,12 +54,12 @@ raised : (a b : ℕ) → b ≡ more a → b < 2 ^ 64 - 1 → b ≡ a + 1
 raised a b e lt = omega (arith, e, lt)
 
 -- where a tally has grown and isn't at its top, it wasn't
-pub was_below : (was now : Tally) → GrowsTo was now → IsBelowTop now → IsBelowTop was
-was_below was now g b = record {
+pub was_below : (e : Event) (was now : Tally) → GrowsTo e was now → IsBelowTop now → IsBelowTop was
+was_below e was now g b = record {
   loads = under was.loads now.loads g.loads b.loads;
   omitted = under was.omitted now.omitted g.omitted b.omitted;
   queued = under was.queued now.queued g.queued b.queued;
-  persists = under was.persists now.persists g.persists.least b.persists;
+  persists = written (is_persist e) was.persists now.persists g.persists b.persists;
   failed = under was.failed now.failed g.failed.least b.failed;
   helped = under was.helped now.helped g.helped.least b.helped;
   tries = under was.tries now.tries g.tries.least b.tries;
@@ -68,34 +68,39 @@ was_below was now g b = record {
     under : (a b : ℕ) → a ≤ b → b < 2 ^ 64 - 1 → a < 2 ^ 64 - 1
     under a b h i = omega (arith, h, i)
 
-excuses_grow : (k : Kind) (was now : Tally) → GrowsTo was now → excuses k was ≤ excuses k now
-excuses_grow List_kind was now g = g.failed.least
-excuses_grow Hash was now g = g.failed.least
-excuses_grow Tree was now g = both was.failed now.failed was.helped now.helped g.failed.least g.helped.least
+    written : (back : Bool) (a b : ℕ) → b ≡ (if back then more a else a) → b < 2 ^ 64 - 1 → a < 2 ^ 64 - 1
+    written true a b e i = omega (arith, e, i)
+    written false a b e i = omega (arith, e, i)
+
+excuses_grow : (k : Kind) (e : Event) (was now : Tally) → GrowsTo e was now → excuses k was ≤ excuses k now
+excuses_grow List_kind e was now g = g.failed.least
+excuses_grow Hash e was now g = g.failed.least
+excuses_grow Tree e was now g = both was.failed now.failed was.helped now.helped g.failed.least g.helped.least
   where
     both : (a b c d : ℕ) → a ≤ b → c ≤ d → a + c ≤ b + d
     both a b c d h i = omega (arith, h, i)
 
-excuse_lost : (k : Kind) (was now : Tally) → GrowsTo was now → now.failed ≡ was.failed + 1 → excuses k was + 1 ≤ excuses k now
-excuse_lost List_kind was now g e = omega (arith, e)
-excuse_lost Hash was now g e = omega (arith, e)
-excuse_lost Tree was now g e = both was.failed now.failed was.helped now.helped e g.helped.least
+excuse_lost : (k : Kind) (v : Event) (was now : Tally) → GrowsTo v was now → now.failed ≡ was.failed + 1 → excuses k was + 1 ≤ excuses k now
+excuse_lost List_kind v was now g e = omega (arith, e)
+excuse_lost Hash v was now g e = omega (arith, e)
+excuse_lost Tree v was now g e = both was.failed now.failed was.helped now.helped e g.helped.least
   where
     both : (a b c d : ℕ) → b ≡ a + 1 → c ≤ d → a + c + 1 ≤ b + d
     both a b c d h i = omega (arith, h, i)
 
-excuse_helped : (k : Kind) (was now : Tally) → GrowsTo was now → k ≡ Tree → now.helped ≡ was.helped + 1 → excuses k was + 1 ≤ excuses k now
-excuse_helped k was now g tree e = subst (λ x. excuses x was + 1 ≤ excuses x now) (sym tree) (both was.failed now.failed was.helped now.helped g.failed.least e)
+excuse_helped : (k : Kind) (v : Event) (was now : Tally) → GrowsTo v was now → k ≡ Tree → now.helped ≡ was.helped + 1 → excuses k was + 1 ≤ excuses k now
+excuse_helped k v was now g tree e = subst (λ x. excuses x was + 1 ≤ excuses x now) (sym tree) (both was.failed now.failed was.helped now.helped g.failed.least e)
   where
     both : (a b c d : ℕ) → a ≤ b → d ≡ c + 1 → a + c + 1 ≤ b + d
     both a b c d h i = omega (arith, h, i)
 
-searches_same : (k : Kind) (start was now : Tally) → GrowsTo was now → now.tries ≡ was.tries → AreSearchesBounded k start was → AreSearchesBounded k start now
-searches_same k start was now g same h =
-    sum was.tries now.tries (excuses k start) start.tries (excuses k was) (excuses k now) same (excuses_grow k was now g) h
+searches_same : (k : Kind) (e : Event) (start was now : Tally) → GrowsTo e was now → now.tries ≡ was.tries → AreSearchesBounded k start was →
+    AreSearchesBounded k start now
+searches_same k e start was now g same h =
+    sum was.tries now.tries (excuses k start) start.tries (excuses k was) (excuses k now) same (excuses_grow k e was now g) h
   where
     sum : (t u x s a b : ℕ) → u ≡ t → a ≤ b → t + x ≤ s + a + 1 → u + x ≤ s + b + 1
-    sum t u x s a b e i h = omega (arith, e, i, h)
+    sum t u x s a b k i h = omega (arith, k, i, h)
 
 searches_more : (k : Kind) (start was now : Tally) → now.tries ≡ was.tries + 1 → excuses k was + 1 ≤ excuses k now → AreSearchesBounded k start was →
     AreSearchesBounded k start now
@@ -175,15 +180,15 @@ module _ {G Op : Type 0} (c : Crew G Op) (l : Layout) (p : Place) (free : List �
 
   pub licensed_searches : (start : Tally) → IsTally (tally_of A op) → (IsBelowTop (tally_of A op) → AreSearchesBounded l.kind start (tally_of A op)) →
       IsBelowTop (tally_of A next) → AreSearchesBounded l.kind start (tally_of A next)
-  licensed_searches start t was below = ⊎_elim (λ same. searches_same l.kind start (tally_of A op) (tally_of A next) grows same bounded)
+  licensed_searches start t was below = ⊎_elim (λ same. searches_same l.kind e start (tally_of A op) (tally_of A next) grows same bounded)
       (λ s. one_more s.0 s.1 s.2)
       begins_search
     where
-      grows : GrowsTo (tally_of A op) (tally_of A next)
-      grows = (op_counted c l p free keeps counts op (answer M.state e) t).grows
+      grows : GrowsTo e (tally_of A op) (tally_of A next)
+      grows = (op_counted c l p free keeps counts op e (answer M.state e) q t).grows
 
       bounded : AreSearchesBounded l.kind start (tally_of A op)
-      bounded = was (was_below (tally_of A op) (tally_of A next) grows below)
+      bounded = was (was_below e (tally_of A op) (tally_of A next) grows below)
 
       one_more : has_ended p m ≡ true → next ≡ A.resumed op m → BeginsSearch c l p free m (hand_in m).tally (tally_of A next) →
           AreSearchesBounded l.kind start (tally_of A next)
@@ -199,10 +204,10 @@ module _ {G Op : Type 0} (c : Crew G Op) (l : Layout) (p : Place) (free : List �
 
           excuse : (is_lost s.how ≡ true) ⊎ ((l.kind ≡ Tree) × ((tally_of A next).helped ≡ more (hand_in m).tally.helped)) →
               excuses l.kind (tally_of A op) + 1 ≤ excuses l.kind (tally_of A next)
-          excuse (inl lost) = excuse_lost l.kind (tally_of A op) (tally_of A next) grows (raised (tally_of A op).failed (tally_of A next).failed
+          excuse (inl lost) = excuse_lost l.kind e (tally_of A op) (tally_of A next) grows (raised (tally_of A op).failed (tally_of A next).failed
               (failed_now ∙ ap (λ x. (hand_in x).tally.failed) s.is
               ∙ lost_counts p free (A.machine op) e (answer M.state e) s.exchange s.how q s.is s.ended lost) below.failed)
-          excuse (inr helped) = excuse_helped l.kind (tally_of A op) (tally_of A next) grows helped.0
+          excuse (inr helped) = excuse_helped l.kind e (tally_of A op) (tally_of A next) grows helped.0
               (raised (tally_of A op).helped (tally_of A next).helped (helped.1 ∙ ap more tallied.helped) below.helped)
 
   -- ---- the events of a try

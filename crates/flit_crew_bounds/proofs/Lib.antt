@@ -1,7 +1,9 @@
 pub mod MachineHands
 pub mod MachineLeft
 pub mod MachineFalls
+pub mod Splitting
 pub mod Tallying
+pub mod WriteBacksCounted
 pub mod Sparing
 pub mod Progressing
 pub mod Searching

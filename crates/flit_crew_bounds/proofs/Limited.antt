@@ -81,9 +81,9 @@ module _ {G Op : Type 0} (c : Crew G Op) (l : Layout) (p : Place) (free : List �
 
   pub tallies : (M : Moment Op) (a : List (Worker Op)) (name number : ℕ) (op : Op) (call : Call) (begun : Option ℕ) (b : List (Worker Op)) (e : Event) →
       meaning.asked op ≡ Some e → HoldsAt M a (busy name number op call begun) b →
-      GrowsTo (tally meaning op) (tally meaning (meaning.taken op (answer M.state e)))
+      GrowsTo e (tally meaning op) (tally meaning (meaning.taken op (answer M.state e)))
   tallies M a name number op call begun b e q h =
-      (op_counted c l p free keeps counts op (answer M.state e) (counting M a (busy name number op call begun) b h)).grows
+      (op_counted c l p free keeps counts op e (answer M.state e) q (counting M a (busy name number op call begun) b h)).grows
 
   pub licensed_first : (M : Moment Op) (a : List (Worker Op)) (name number : ℕ) (hand : Hand) (call : Call) (b : List (Worker Op)) →
       MayStart l hand call → HoldsAt M a (idle name number hand) b →
@@ -132,11 +132,11 @@ module _ {G Op : Type 0} (c : Crew G Op) (l : Layout) (p : Place) (free : List �
       (events_of_try n (tally meaning op) (tally meaning next))
   licensed_own M a name number op call begun b e start n q h k =
       let t = counting M a (busy name number op call begun) b h in
-      let grows = (op_counted c l p free keeps counts op (answer M.state e) t).grows in
+      let grows = (op_counted c l p free keeps counts op e (answer M.state e) q t).grows in
       record {
         searches = licensed_searches c l p free limits keeps counts bounds M a name number op call begun b e q h.0 start t k.searches;
         events = λ below. licensed_events c l p free limits keeps counts bounds M a name number op call begun b e q h.0 limits.bound bounds.tries n below
-            (k.events (was_below (tally_of A op) (tally_of A (meaning.taken op (answer M.state e))) grows below));
+            (k.events (was_below e (tally_of A op) (tally_of A (meaning.taken op (answer M.state e))) grows below));
       }
 
   pub licensed_kept : (M N : Moment Op) (who : Option ℕ) (name number : ℕ) (op : Op) (call : Call) (begun : Option ℕ) (start : Tally) (n : ℕ) →

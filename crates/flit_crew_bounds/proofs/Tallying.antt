@@ -1,5 +1,5 @@
 -- The counts of a call go on, and those of all hands stay within, whatever happens.
-use Rattle.std.proofs.Common.{◌≡◌, ℕ, ◌+◌, ◌-◌, ◌^◌, ◌≤◌, Bool, true, false, List, length, Option, Some, None, refl, sym, subst, arith}
+use Rattle.std.proofs.Common.{◌≡◌, ℕ, ◌+◌, ◌-◌, ◌^◌, ◌≤◌, Bool, true, false, List, length, Option, Some, None, refl, sym, ◌∙◌, subst, arith}
 use Rattle.std.proofs.lemmas.Option.{none-some}
 use Rattle.flit_words.specs.declared.layouts.Layout.{Layout}
 use Rattle.flit_model.specs.Effects.{answer}
@@ -15,33 +15,35 @@ use Rattle.flit_structure.specs.declared.workers.Doing.TheVariants.{Idle, Busy, 
 use Rattle.flit_structure.specs.declared.workers.Worker.{Worker}
 use Rattle.flit_structure.specs.Moments.{Moment, idle, busy, sweeper}
 use Rattle.flit_structure.specs.Meanings.{Meaning, Happens, hiring, reordering, beginning, finishing, evicting, evicted, making, writing_back, asks, goes_on}
-use Rattle.flit_structure.specs.Lawful.{IsCounted, BeginsWith, GrowsTo}
+use Rattle.flit_structure.specs.Lawful.{IsCounted, BeginsWith, GrowsTo, is_persist}
 use Rattle.flit_structure.proofs.Names.{all_at, all_put, all_swap}
-use Rattle.flit_crew.specs.Machines.{Machine, machine_takes, hand_in, has_ended}
+use Rattle.flit_crew.specs.Machines.{Machine, machine_asks, machine_takes, hand_in, has_ended}
 use Rattle.flit_crew.specs.Anatomies.{Anatomy, gone_by, op_taken, hand_at}
 use Rattle.flit_crew.specs.Crews.{Crew}
 use Rattle.flit_crew.specs.CrewMeanings.{Bounds, crew_meaning}
 use Rattle.flit_crew.specs.Obligations.{Keeps}
 use Rattle.flit_crew_bounds.specs.Counting.{GoesOnWith, StartsWith, tally_of, AreCounting, KeepsCounts}
 use Rattle.flit_crew_bounds.proofs.MachineHands.{Tallied, machine_tallied}
+use Rattle.flit_crew_bounds.proofs.WriteBacksCounted.{Adds, machine_adds}
 
 -- ---- tallies
 
 -- a tally after one event: it has grown, and is within
-pub record Counted (was now : Tally) : Type 0 where
-  pub grows : GrowsTo was now
+pub record Counted (e : Event) (was now : Tally) : Type 0 where
+  pub grows : GrowsTo e was now
   pub within : IsTally now
 
 counted : (was now : ℕ) → was ≤ 2 ^ 64 - 1 → Counts was now → IsCounted was now
 counted was now top h = let k = counts_up was now top h in record { least = k.0; most = k.1 }
 
-pub counted_all : (was now : Tally) → IsTally was → Tallies was now → Counted was now
-counted_all was now t h = record {
+pub counted_all : (e : Event) (was now : Tally) → IsTally was → Tallies was now → Adds (is_persist e) was now → Counted e was now
+counted_all e was now t h adds = record {
   grows = record {
     loads = (counts_up was.loads now.loads t.loads h.loads).0;
     omitted = (counts_up was.omitted now.omitted t.omitted h.omitted).0;
     queued = (counts_up was.queued now.queued t.queued h.queued).0;
-    persists = counted was.persists now.persists t.persists h.persists;
+    split = adds.split;
+    persists = adds.persists;
     failed = counted was.failed now.failed t.failed h.failed;
     helped = counted was.helped now.helped t.helped h.helped;
     tries = counted was.tries now.tries t.tries h.tries;
@@ -53,15 +55,16 @@ through : (a b c : ℕ) → a ≤ b → b ≤ c → a ≤ c
 through a b c h i = omega (arith, h, i)
 
 -- an event of its machine, and what comes behind it
-pub counted_on : (was mid now : Tally) → IsTally was → Tallied was mid → GoesOnWith mid now → Counted was now
-counted_on was mid now t m g =
-    let k = (counted_all was mid t m.counts).grows in
+pub counted_on : (e : Event) (was mid now : Tally) → IsTally was → Tallied was mid → Adds (is_persist e) was mid → GoesOnWith mid now → Counted e was now
+counted_on e was mid now t m adds g =
+    let k = (counted_all e was mid t m.counts adds).grows in
     record {
       grows = record {
         loads = through was.loads mid.loads now.loads k.loads g.loads;
         omitted = through was.omitted mid.omitted now.omitted k.omitted g.omitted;
         queued = through was.queued mid.queued now.queued k.queued g.queued;
-        persists = subst (IsCounted was.persists) (sym g.persists) k.persists;
+        split = λ h. g.split (adds.split h);
+        persists = g.persists ∙ adds.persists;
         failed = subst (IsCounted was.failed) (sym g.failed) k.failed;
         helped = counted was.helped now.helped t.helped (subst (λ n. Counts n now.helped) m.helped g.helped);
         tries = counted was.tries now.tries t.tries (subst (λ n. Counts n now.tries) m.tries g.tries);
@@ -104,8 +107,9 @@ module _ {G Op : Type 0} (c : Crew G Op) (l : Layout) (p : Place) (free : List �
   A = c.anatomy
 
   -- an event of an operation
-  pub op_counted : (op : Op) (told : ℕ) → IsTally (tally_of A op) → Counted (tally_of A op) (tally_of A (op_taken A p free op told))
-  op_counted op told t = by_end (has_ended p m) refl
+  pub op_counted : (op : Op) (e : Event) (told : ℕ) → machine_asks p (A.machine op) ≡ Some e → IsTally (tally_of A op) →
+      Counted e (tally_of A op) (tally_of A (op_taken A p free op told))
+  op_counted op e told q t = by_end (has_ended p m) refl
     where
       m : Machine
       m = machine_takes p free (A.machine op) told
@@ -113,14 +117,17 @@ module _ {G Op : Type 0} (c : Crew G Op) (l : Layout) (p : Place) (free : List �
       tallied : Tallied (tally_of A op) (hand_in m).tally
       tallied = machine_tallied p free (A.machine op) told
 
+      adds : Adds (is_persist e) (tally_of A op) (hand_in m).tally
+      adds = machine_adds p free (A.machine op) told e q
+
       within : IsTally (hand_in m).tally
       within = tallies_within (tally_of A op) (hand_in m).tally t tallied.counts
 
-      by_end : (b : Bool) → has_ended p m ≡ b → Counted (tally_of A op) (tally_of A (gone_by A b op m))
-      by_end true e = counted_on (tally_of A op) (hand_in m).tally (tally_of A (A.resumed op m)) t tallied
-          (counts.resumed op m (record { told = told; is = refl; ended = e }) within)
-      by_end false e = subst (λ x. Counted (tally_of A op) (hand_in x).tally) (sym (keeps.put op m (told, refl)))
-          (counted_all (tally_of A op) (hand_in m).tally t tallied.counts)
+      by_end : (b : Bool) → has_ended p m ≡ b → Counted e (tally_of A op) (tally_of A (gone_by A b op m))
+      by_end true ended = counted_on e (tally_of A op) (hand_in m).tally (tally_of A (A.resumed op m)) t tallied adds
+          (counts.resumed op m (record { told = told; is = refl; ended = ended }) within)
+      by_end false going = subst (λ x. Counted e (tally_of A op) (hand_in x).tally) (sym (keeps.put op m (told, refl)))
+          (counted_all e (tally_of A op) (hand_in m).tally t tallied.counts adds)
 
   abbrev IsCounting : Worker Op → Type 0
   IsCounting u = IsTally (hand_at A u.doing).tally
@@ -132,7 +139,7 @@ module _ {G Op : Type 0} (c : Crew G Op) (l : Layout) (p : Place) (free : List �
     doing_counted : (settled told : ℕ) (d : Doing Op) (e : Event) → asks meaning d ≡ Some e → IsTally (hand_at A d).tally →
         IsTally (hand_at A (goes_on meaning settled d told)).tally
     doing_counted settled told (Idle hand) e q t = absurd (none-some e q)
-    doing_counted settled told (Busy op call begun) e q t = (op_counted op told t).within
+    doing_counted settled told (Busy op call begun) e q t = (op_counted op e told q t).within
     doing_counted settled told (Evicting m) e q t = tallies_within m.hand.tally (hand_at A (goes_on meaning settled (Evicting m) told)).tally t
         (evict_goes_on m told).tally
 

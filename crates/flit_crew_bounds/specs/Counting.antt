@@ -8,7 +8,7 @@ use Rattle.flit_place.specs.Tags.{Place}
 use Rattle.flit_pv.specs.declared.hands.Hand.{Hand}
 use Rattle.flit_pv.specs.Tallies.{IsTally, Counts}
 use Rattle.flit_structure.specs.declared.workers.Worker.{Worker}
-use Rattle.flit_structure.specs.Lawful.{AreSpareIn, is_insert}
+use Rattle.flit_structure.specs.Lawful.{AreSpareIn, AreLoadsSplit, is_insert}
 use Rattle.flit_crew.specs.Machines.{Machine, machine_takes, hand_in, has_ended, deed_of, has_linked}
 use Rattle.flit_crew.specs.Heaps.{Heap}
 use Rattle.flit_crew.specs.Anatomies.{Anatomy, hand_at}
@@ -21,6 +21,7 @@ pub record GoesOnWith (was now : Tally) : Type 0 where
   pub loads : was.loads ≤ now.loads
   pub omitted : was.omitted ≤ now.omitted
   pub queued : was.queued ≤ now.queued
+  pub split : AreLoadsSplit was → AreLoadsSplit now
   pub persists : now.persists ≡ was.persists
   pub failed : now.failed ≡ was.failed
   pub helped : Counts was.helped now.helped

@@ -31,6 +31,8 @@ use Rattle.flit_rows.specs.declared.take_row.Taking.{Taking}
 use Rattle.flit_rows.specs.declared.take_row.Taking.TheVariants.{Draws, Ended as Take_ended}
 use Rattle.flit_rows.specs.Taking.{HeldTake, take_started}
 use Rattle.flit_structure.specs.Meanings.{key_of}
+use Rattle.flit_structure.specs.Lawful.{AreLoadsSplit}
+use Rattle.flit_crew_bounds.proofs.Splitting.{splits_left, splits_right}
 use Rattle.flit_list_steps.specs.declared.operations.LinkWord.{LinkWord}
 use Rattle.flit_list_steps.specs.declared.operations.Goal.{Goal}
 use Rattle.flit_list_steps.specs.declared.operations.Goal.TheVariants.{Help as To_help, Found as To_found, Absent as To_absent}
@@ -45,6 +47,7 @@ pub record Quiet (hand now : Hand) : Type 0 where
   pub loads : IsTally hand.tally → hand.tally.loads ≤ now.tally.loads
   pub omitted : IsTally hand.tally → hand.tally.omitted ≤ now.tally.omitted
   pub queued : IsTally hand.tally → hand.tally.queued ≤ now.tally.queued
+  pub split : AreLoadsSplit hand.tally → AreLoadsSplit now.tally
   pub persists : now.tally.persists ≡ hand.tally.persists
   pub failed : now.tally.failed ≡ hand.tally.failed
   pub helped : now.tally.helped ≡ hand.tally.helped
@@ -60,6 +63,7 @@ quiet_same hand = record {
   loads = λ t. same_le hand.tally.loads;
   omitted = λ t. same_le hand.tally.omitted;
   queued = λ t. same_le hand.tally.queued;
+  split = λ s. s;
   persists = refl;
   failed = refl;
   helped = refl;
@@ -73,6 +77,7 @@ quiet_then a b c f g = record {
   loads = λ t. le a.tally.loads b.tally.loads c.tally.loads (f.loads t) (g.loads (f.within t));
   omitted = λ t. le a.tally.omitted b.tally.omitted c.tally.omitted (f.omitted t) (g.omitted (f.within t));
   queued = λ t. le a.tally.queued b.tally.queued c.tally.queued (f.queued t) (g.queued (f.within t));
+  split = λ s. g.split (f.split s);
   persists = g.persists ∙ f.persists;
   failed = g.failed ∙ f.failed;
   helped = g.helped ∙ f.helped;
@@ -107,6 +112,7 @@ module _ (m : HeldConfirm) where
     loads = λ t. rises m.hand.tally.loads t.loads;
     omitted = λ t. same_le m.hand.tally.omitted;
     queued = λ t. rises m.hand.tally.queued t.queued;
+    split = splits_right m.hand.tally.loads m.hand.tally.omitted m.hand.tally.queued;
     persists = refl;
     failed = refl;
     helped = refl;
@@ -128,6 +134,7 @@ module _ (m : HeldConfirm) where
     loads = λ t. rises m.hand.tally.loads t.loads;
     omitted = λ t. rises m.hand.tally.omitted t.omitted;
     queued = λ t. same_le m.hand.tally.queued;
+    split = splits_left m.hand.tally.loads m.hand.tally.omitted m.hand.tally.queued;
     persists = refl;
     failed = refl;
     helped = refl;
