@@ -19,6 +19,7 @@ pub mod CallerOrder
 pub mod Licences
 pub mod CountedRuns
 pub mod QueuedRuns
+pub mod PersistRuns
 pub mod WholeImages
 pub mod Promised
 pub mod TurnOrder

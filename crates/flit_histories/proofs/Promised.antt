@@ -28,6 +28,7 @@ use Rattle.flit_histories.proofs.CallerOrder.{numbers_in_order}
 use Rattle.flit_histories.proofs.LedParts.{follows_led, follows_content}
 use Rattle.flit_histories.proofs.CountedRuns.{all_first, bounds_counted}
 use Rattle.flit_histories.proofs.WholeImages.{image_whole, image_has_map}
+use Rattle.flit_histories.proofs.PersistRuns.{persists_counted, loads_split}
 use Rattle.flit_histories.proofs.QueuedRuns.{HasNoneQueued, queued_led, IsBoundedPart, bounded_led}
 
 module _ {Op : Type 0} (meaning : Meaning Op) (l : Lawful meaning) (start : Recovered) (works : List Work) (h : IsStart meaning start works) (turns : List Given)
@@ -119,4 +120,6 @@ module _ {Op : Type 0} (meaning : Meaning Op) (l : Lawful meaning) (start : Reco
     queued = λ one worker a p b part. all_from_at (HasNoneQueued meaning) 1 a b p
         (subst (AllFrom (HasNoneQueued meaning) 1) part.is
         (queued_led meaning l one first r led first_sound (all_first meaning l (HasNoneQueued meaning) (λ m w. refl) 1 works)));
+    persists = λ worker. persists_counted meaning l start works h turns r f worker;
+    split = λ worker. loads_split meaning l start works h turns r f worker;
   }

@@ -1,5 +1,5 @@
 -- All that a run promises at a moment, for one choice of words of which a crash takes the value ahead.
-use Rattle.std.specs.Prelude.{◌≡◌, ◌⊎◌, ℕ, ◌<◌, ◌≤◌, Bool, List, [], ◌∷◌, filter, Some, None, slice_get}
+use Rattle.std.specs.Prelude.{◌≡◌, ◌⊎◌, ℕ, ◌-◌, ◌^◌, min, ◌<◌, ◌≤◌, Bool, List, [], ◌∷◌, filter, Some, None, slice_get}
 use Rattle.std.specs.List.{AllByRecursion}
 use Rattle.flit_model.specs.Maps.{IsLegal, map_after_all}
 use Rattle.flit_model.specs.Histories.{IsRightAt}
@@ -15,11 +15,11 @@ use Rattle.flit_model.specs.declared.found.Image.{Image}
 use Rattle.flit_model.specs.declared.found.Recovered.{Recovered}
 use Rattle.flit_structure.specs.Moments.{update_of}
 use Rattle.flit_structure.specs.Meanings.{Meaning}
-use Rattle.flit_structure.specs.Lawful.{HasMap, IsBounded, IsBelowTop}
+use Rattle.flit_structure.specs.Lawful.{HasMap, IsBounded, IsBelowTop, AreLoadsSplit}
 use Rattle.flit_sched.specs.Runs.{Part, Run}
 use Rattle.flit_sched.specs.Openings.{opened_run}
 use Rattle.flit_sched.specs.Turns.{tally_in}
-use Rattle.flit_histories.specs.Following.{Given, Follows}
+use Rattle.flit_histories.specs.Following.{Given, Follows, persists_by}
 use Rattle.flit_sched.specs.Views.{OfWorker, AreAheadOf, history_with}
 use Rattle.flit_histories.specs.Calls.{IsCallIn, is_of, entries_of, IsOfCall, IsUnderWayAt}
 use Rattle.flit_histories.specs.Counts.{Count, no_count, Counts, IsWithinBounds}
@@ -73,6 +73,11 @@ module _ {Op : Type 0} (meaning : Meaning Op) where
     pub bounds : (worker : ℕ) (c : Count) → Counts meaning worker first no_count turns r c →
         OfWorker r worker (λ p. IsBelowTop (tally_in meaning p.worker.doing) → IsWithinBounds meaning c p.worker.doing)
     pub queued : meaning.layout.workers ≡ 1 → (worker : ℕ) → OfWorker r worker (λ p. (tally_in meaning p.worker.doing).queued ≡ 0)
+    -- a worker's tally counts the write-backs that its turns made, as far as 64 bits go; and each load that it counts has
+    -- queued its word or not
+    pub persists : (worker : ℕ) → OfWorker r worker
+        (λ p. (tally_in meaning p.worker.doing).persists ≡ min (persists_by worker turns) (2 ^ 64 - 1))
+    pub split : (worker : ℕ) → OfWorker r worker (λ p. AreLoadsSplit (tally_in meaning p.worker.doing))
 
   -- Turns that are given from an opening on, to any workers in any order, lead to a run that promises all this for each
   -- choice of words. And each worker has its count along them.

@@ -143,20 +143,22 @@ module _ {Op : Type 0} (meaning : Meaning Op) (l : Lawful meaning) (t : Content)
         let most = number_begun in
         omega (arith, few, most)
 
-  pub searches : (worker : ℕ) (tally : Tally) → 1 ≤ worker → slice_get told.tallies (worker - 1) ≡ Some tally → IsBelowTop tally →
-      tally.tries ≤ excuses t.head.layout.kind tally + may_have_begun (lines_of worker told.lines)
-  searches worker tally some got low =
+  -- a tally that is told is that of a part
+  pub tally_there : (worker : ℕ) (tally : Tally) → 1 ≤ worker → slice_get told.tallies (worker - 1) ≡ Some tally →
+      (a : List (Part Op)) × (p : Part Op) × (b : List (Part Op)) × IsPart final worker a p b × (tally_in meaning p.worker.doing ≡ tally)
+  tally_there worker tally some got =
       let all : told.tallies ≡ map (λ p. tally_in meaning p.worker.doing) final.parts = is.tallies in
       let long : length told.tallies ≡ t.head.layout.workers = ap length all ∙ length-map final.parts (λ p. tally_in meaning p.worker.doing)
       ∙ parts_long meaning t start is.run.works is.run.are_works final is.given (printed.follows meaning l t shows start told ready is) in
       let within = slice_get_within told.tallies (worker - 1) tally got in
       let o = part_there meaning t start is.run.works is.run.are_works final is.given (printed.follows meaning l t shows start told ready is) worker some
-      (omega (arith, some, long, within)) in
-      let same : tally_in meaning o.1.worker.doing ≡ tally =
-      tally_is o.0 o.1 o.2 (sym (at_here o.0 o.1 o.2 o.3) ∙ ap (λ xs. slice_get xs (worker - 1)) (sym all) ∙ got) in
-      subst (λ k. tally.tries ≤ excuses k tally + may_have_begun (lines_of worker told.lines)) (ap (λ x. x.kind) ready.layout)
-      (subst (λ y. y.tries ≤ excuses meaning.layout.kind y + may_have_begun (lines_of worker told.lines)) same
-      (paid worker o.0 o.1 o.2 o.3 (subst IsBelowTop (sym same) low)))
+      (omega (arith, some, long, within)) in (
+        o.0,
+        o.1,
+        o.2,
+        o.3,
+        tally_is o.0 o.1 o.2 (sym (at_here o.0 o.1 o.2 o.3) ∙ ap (λ xs. slice_get xs (worker - 1)) (sym all) ∙ got),
+      )
     where
       tally_is : (a : List (Part Op)) (p : Part Op) (b : List (Part Op)) → Some (tally_in meaning p.worker.doing) ≡ Some tally →
           tally_in meaning p.worker.doing ≡ tally
@@ -174,3 +176,11 @@ module _ {Op : Type 0} (meaning : Meaning Op) (l : Lawful meaning) (t : Content)
               slice_get (map (λ q. tally_in meaning q.worker.doing) (xs ++ x ∷ ys)) (length xs) ≡ Some (tally_in meaning x.worker.doing)
           mapped [] ys x = refl
           mapped (z ∷ xs) ys x = mapped xs ys x
+
+  pub searches : (worker : ℕ) (tally : Tally) → 1 ≤ worker → slice_get told.tallies (worker - 1) ≡ Some tally → IsBelowTop tally →
+      tally.tries ≤ excuses t.head.layout.kind tally + may_have_begun (lines_of worker told.lines)
+  searches worker tally some got low =
+      let o = tally_there worker tally some got in
+      subst (λ k. tally.tries ≤ excuses k tally + may_have_begun (lines_of worker told.lines)) (ap (λ x. x.kind) ready.layout)
+      (subst (λ y. y.tries ≤ excuses meaning.layout.kind y + may_have_begun (lines_of worker told.lines)) o.4
+      (paid worker o.0 o.1 o.2 o.3 (subst IsBelowTop (sym o.4) low)))

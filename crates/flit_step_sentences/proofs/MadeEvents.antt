@@ -1,16 +1,18 @@
 -- The events of turns: their answers, the machine after them, and how many each worker made.
-use Rattle.std.proofs.Common.{◌≡◌, ℕ, ◌+◌, ◌==◌, eqb, Bool, true, false, cond, List, [], ◌∷◌, ◌++◌, length, filter, refl, sym, ◌∙◌, ap, subst, arith}
+use Rattle.std.proofs.Common.{◌≡◌, ℕ, ◌+◌, ◌==◌, ◌&&◌, eqb, Bool, true, false, cond, List, [], ◌∷◌, ◌++◌, length, filter, refl, sym, ◌∙◌, ap, subst, arith}
 use Rattle.flit_model.specs.States.{State}
+use Rattle.flit_model.proofs.Counting.{count_by-cons}
 use Rattle.flit_report.specs.declared.content.Shown.{Shown}
 use Rattle.flit_structure.specs.Meanings.{Meaning}
+use Rattle.flit_structure.specs.Lawful.{is_persist}
 use Rattle.flit_sched.specs.declared.runs.Turn.{Turn}
 use Rattle.flit_sched.specs.declared.runs.Turn.TheVariants.{Event as Event_turn, Idle as Idle_turn}
 use Rattle.flit_sched.specs.Runs.{Run}
 use Rattle.flit_sched.specs.Turns.{IsTurn}
-use Rattle.flit_histories.specs.Following.{Given, Follows}
+use Rattle.flit_histories.specs.Following.{Given, Follows, has_persisted, persists_by}
 use Rattle.flit_histories.specs.TurnLaws.{one_if_event, events_by}
 use Rattle.flit_turns.specs.Lines.{shown_by, shown_of, shown_if}
-use Rattle.flit_step_sentences.specs.Machines.{state_after, AreAnswered, events_made}
+use Rattle.flit_step_sentences.specs.Machines.{state_after, AreAnswered, events_made, persists_made}
 
 pub shown_where : (shows : Bool) (ts : List Given) → shown_if shows ts ≡ cond shows (shown_of ts) []
 shown_where true ts = refl
@@ -33,6 +35,23 @@ one_made worker v n Idle_turn ss rest = by_test (eqb v worker)
 pub made_by_turns : (worker : ℕ) (ts : List Given) → events_made worker (shown_of ts) ≡ events_by worker ts
 made_by_turns worker [] = refl
 made_by_turns worker (t ∷ ts) = one_made worker t.worker (events_by worker ts) t.turn (shown_of ts) (made_by_turns worker ts)
+
+one_persisted : (worker v n : ℕ) (x : Turn) (ss : List Shown) → persists_made worker ss ≡ n →
+    persists_made worker (shown_by v x ++ ss) ≡ cond (eqb v worker && has_persisted x) 1 0 + n
+one_persisted worker v n (Event_turn e told) ss rest =
+    count_by-cons (λ (s : Shown). eqb s.worker worker && is_persist s.event) (record { worker = v; event = e; answer = told }) ss
+    ∙ ap (λ k. cond (eqb v worker && is_persist e) 1 0 + k) rest
+one_persisted worker v n Idle_turn ss rest = by_test (eqb v worker)
+  where
+    by_test : (b : Bool) → persists_made worker ss ≡ cond (b && false) 1 0 + n
+    by_test true = omega (arith, rest)
+    by_test false = omega (arith, rest)
+
+pub persists_by_turns : (worker : ℕ) (ts : List Given) → persists_made worker (shown_of ts) ≡ persists_by worker ts
+persists_by_turns worker [] = refl
+persists_by_turns worker (t ∷ ts) =
+    one_persisted worker t.worker (persists_by worker ts) t.turn (shown_of ts) (persists_by_turns worker ts)
+    ∙ sym (count_by-cons (λ (g : Given). eqb g.worker worker && has_persisted g.turn) t ts)
 
 module _ {Op : Type 0} (meaning : Meaning Op) where
   one_state : (r q : Run Op) (worker : ℕ) (x : Turn) (ss : List Shown) (m : State) → IsTurn meaning r worker x q → state_after q.state ss ≡ m →

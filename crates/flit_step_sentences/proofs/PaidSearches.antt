@@ -22,7 +22,7 @@ use Rattle.flit_structure.specs.declared.workers.Doing.TheVariants.{Idle, Busy, 
 use Rattle.flit_structure.specs.declared.workers.Worker.{Worker}
 use Rattle.flit_structure.specs.Moments.{Moment, with_workers}
 use Rattle.flit_structure.specs.Meanings.{Meaning, asks, goes_on, replied, tally}
-use Rattle.flit_structure.specs.Lawful.{Lawful, AreSearchesBounded, IsBelowTop, excuses}
+use Rattle.flit_structure.specs.Lawful.{Lawful, AreSearchesBounded, IsBelowTop, excuses, is_persist, persists_after}
 use Rattle.flit_sched.specs.declared.runs.Turn.{Turn}
 use Rattle.flit_sched.specs.declared.runs.Turn.TheVariants.{Event as Event_turn, Idle as Idle_turn}
 use Rattle.flit_sched.specs.Runs.{Part, Run, IsPart, moment_of, workers_of}
@@ -48,6 +48,13 @@ use Rattle.flit_step_sentences.proofs.OwnLines.{got_between}
 
 below_more : (n : ℕ) → min (n + 1) (2 ^ 64 - 1) < 2 ^ 64 - 1 → n < 2 ^ 64 - 1
 below_more n h = omega (arith, h)
+
+less_persisted : (e : Event) (n : ℕ) → persists_after e n < 2 ^ 64 - 1 → n < 2 ^ 64 - 1
+less_persisted e n h = by_kind (is_persist e) h
+  where
+    by_kind : (b : Bool) → cond b (min (n + 1) (2 ^ 64 - 1)) n < 2 ^ 64 - 1 → n < 2 ^ 64 - 1
+    by_kind true k = below_more n k
+    by_kind false k = k
 
 below_evict : (w : Evict_at) (m : Evict) (told : ℕ) → IsBelowTop (evict_takes w m told).hand.tally → IsBelowTop m.hand.tally
 below_evict Reads m told h = h
@@ -158,7 +165,7 @@ module _ {Op : Type 0} (meaning : Meaning Op) where
           loads = less_still was.loads now.loads g.loads h.loads;
           omitted = less_still was.omitted now.omitted g.omitted h.omitted;
           queued = less_still was.queued now.queued g.queued h.queued;
-          persists = less_still was.persists now.persists g.persists.least h.persists;
+          persists = less_persisted e was.persists (subst (λ n. n < 2 ^ 64 - 1) g.persists h.persists);
           failed = less_still was.failed now.failed g.failed.least h.failed;
           helped = less_still was.helped now.helped g.helped.least h.helped;
           tries = less_still was.tries now.tries g.tries.least h.tries;

@@ -1,5 +1,5 @@
 -- A report of the run of a trace says the headline.
-use Rattle.std.proofs.Common.{◌≡◌, ◌⊎◌, inl, inr, ℕ, ◌+◌, ◌*◌, ◌<◌, ◌≤◌, ◌||◌, Bool, true, false, cond, List, [], ◌∷◌, map, length, filter, take, refl, sym, ◌∙◌, ap, subst, arith, Option, Some, None, slice_get}
+use Rattle.std.proofs.Common.{◌≡◌, ◌⊎◌, inl, inr, ℕ, ◌+◌, ◌-◌, ◌*◌, ◌^◌, min, ◌<◌, ◌≤◌, ◌||◌, Bool, true, false, cond, List, [], ◌∷◌, map, length, filter, take, refl, sym, ◌∙◌, ap, subst, arith, Option, Some, None, slice_get}
 use Rattle.std.proofs.lemmas.Bool.{cases_lt, false≢true}
 use Rattle.std.proofs.lemmas.Option.{slice_get_within}
 use Rattle.std.proofs.lemmas.List.{length-map}
@@ -22,12 +22,13 @@ use Rattle.flit_model.specs.declared.calls.Outcome.TheVariants.{Replied, Stopped
 use Rattle.flit_model.specs.declared.calls.Placed.{Placed}
 use Rattle.flit_model.specs.declared.calls.Reply.{Reply}
 use Rattle.flit_model.specs.declared.calls.Reply.TheVariants.{Yes, No, Found, Full, Worn}
+use Rattle.flit_model.specs.declared.calls.Tally.{Tally}
 use Rattle.flit_model.specs.declared.found.Recovered.{Recovered}
 use Rattle.flit_model.proofs.Membership.{contains_first, contains_none, contains_cases, contains-filter}
 use Rattle.flit_report.specs.Content.{Content as Told, is_done}
 use Rattle.flit_structure.specs.Moments.{made, update_of, waiting_updates}
 use Rattle.flit_structure.specs.Meanings.{Meaning}
-use Rattle.flit_structure.specs.Lawful.{Lawful, HasMap, IsBounded, fits, rows_needed}
+use Rattle.flit_structure.specs.Lawful.{Lawful, HasMap, IsBounded, AreLoadsSplit, fits, rows_needed}
 use Rattle.flit_structure.proofs.Names.{all_both, all_left, all_right, all_map}
 use Rattle.flit_structure.proofs.Taken.{all_taken}
 use Rattle.flit_trace.specs.Contents.{Content}
@@ -35,7 +36,7 @@ use Rattle.flit_trace.specs.Drafts.{stop_of}
 use Rattle.flit_sched.specs.Runs.{Part, Run, IsPart, moment_of}
 use Rattle.flit_sched.specs.Openings.{opened_run}
 use Rattle.flit_sched.specs.Turns.{tally_in}
-use Rattle.flit_sched.specs.Views.{history_with}
+use Rattle.flit_sched.specs.Views.{OfWorker, history_with}
 use Rattle.flit_sched.proofs.ShapeLaws.{same_shape_recovery}
 use Rattle.flit_histories.specs.Calls.{calls_in, IsCallIn, is_of, inserts_in, entries_of, IsOfCall, IsUnderWayAt}
 use Rattle.flit_histories.specs.Orders.{IsIn, StandsBefore}
@@ -58,12 +59,12 @@ use Rattle.flit_step_reports.specs.StepReports.{plan_of, picks_in, IsReportOf, T
 use Rattle.flit_step_reports.proofs.PlanLaws.{plan_out, stop_kept}
 use Rattle.flit_histories.specs.TurnLaws.{events_by}
 use Rattle.flit_step_sentences.specs.Lines.{IsLineOf, calls_told, entries_at}
-use Rattle.flit_step_sentences.specs.Machines.{first_state, state_after, AreAnswered, events_made}
+use Rattle.flit_step_sentences.specs.Machines.{first_state, state_after, AreAnswered, events_made, persists_made}
 use Rattle.flit_step_sentences.specs.Sentences.{map_at, HasCompletedOnce, IsUnfinishedUpdate, HasOneUnfinishedEach, KeepsStops, IsWithinBounds, SaysHeadline}
 use Rattle.flit_step_sentences.specs.SayLaws.{IsOpenFor}
-use Rattle.flit_step_sentences.proofs.BegunCalls.{searches}
+use Rattle.flit_step_sentences.proofs.BegunCalls.{tally_there, searches}
 use Rattle.flit_step_sentences.proofs.FittingReplies.{reply_fits}
-use Rattle.flit_step_sentences.proofs.MadeEvents.{shown_where, made_by_turns, state_led, answered_led}
+use Rattle.flit_step_sentences.proofs.MadeEvents.{shown_where, made_by_turns, persists_by_turns, state_led, answered_led}
 use Rattle.flit_step_sentences.proofs.OwnLines.{lines_asked}
 use Rattle.flit_step_sentences.proofs.OwnParts.{all_there, parts_long, part_named, first_there, part_there}
 use Rattle.flit_step_sentences.proofs.PrintedBounds.{inserts_told, more_rows}
@@ -407,17 +408,29 @@ module _ {Op : Type 0} (meaning : Meaning Op) (l : Lawful meaning) (one_map : On
   found = map_found one_map t.head.layout meaning.layout (crash_image (picks_in t) final.state) told.keys told.values is.recovered.free
       (map_after_all (map_at start) history) shape is.run.headline.map.words is.recovered.recovery
 
-  queued : t.head.layout.workers ≡ 1 → AllByRecursion (λ tally. tally.queued ≡ 0) told.tallies
-  queued one =
-      subst (AllByRecursion (λ tally. tally.queued ≡ 0)) (sym is.tallies)
-      (mapped final.parts (all_there (λ p. (tally_in meaning p.worker.doing).queued ≡ 0) final.parts
-      (λ a p b at. (printed.promises meaning l t shows start told ready is).queued (ap (λ (x : Layout). x.workers) ready.layout ∙ one) (length a + 1) a p b
-      (record { is = at; number = refl }))))
+  -- what is so of each worker's tally is so of each that is told
+  all_told : (P : Tally → Type 0) → ((worker : ℕ) → OfWorker final worker (λ p. P (tally_in meaning p.worker.doing))) → AllByRecursion P told.tallies
+  all_told P so =
+      subst (AllByRecursion P) (sym is.tallies)
+      (mapped final.parts (all_there (λ p. P (tally_in meaning p.worker.doing)) final.parts
+      (λ a p b at. so (length a + 1) a p b (record { is = at; number = refl }))))
     where
-      mapped : (ps : List (Part Op)) → AllByRecursion (λ p. (tally_in meaning p.worker.doing).queued ≡ 0) ps →
-          AllByRecursion (λ tally. tally.queued ≡ 0) (map (λ p. tally_in meaning p.worker.doing) ps)
+      mapped : (ps : List (Part Op)) → AllByRecursion (λ p. P (tally_in meaning p.worker.doing)) ps →
+          AllByRecursion P (map (λ p. tally_in meaning p.worker.doing) ps)
       mapped [] h = tt
       mapped (p ∷ ps) h = (h.0, mapped ps h.1)
+
+  queued : t.head.layout.workers ≡ 1 → AllByRecursion (λ tally. tally.queued ≡ 0) told.tallies
+  queued one = all_told (λ tally. tally.queued ≡ 0)
+      ((printed.promises meaning l t shows start told ready is).queued (ap (λ (x : Layout). x.workers) ready.layout ∙ one))
+
+  persists : (worker : ℕ) (tally : Tally) → 1 ≤ worker → slice_get told.tallies (worker - 1) ≡ Some tally →
+      tally.persists ≡ min (persists_made worker (shown_of is.given)) (2 ^ 64 - 1)
+  persists worker tally some got =
+      let o = tally_there meaning l t shows start told ready is worker tally some got in
+      ap (λ (x : Tally). x.persists) (sym o.4)
+      ∙ (printed.promises meaning l t shows start told ready is).persists worker o.0 o.1 o.2 o.3
+      ∙ ap (λ n. min n (2 ^ 64 - 1)) (sym (persists_by_turns worker is.given))
 
   pub says : SaysHeadline t shows start (shown_of is.given) told
   says = record {
@@ -440,5 +453,7 @@ module _ {Op : Type 0} (meaning : Meaning Op) (l : Lawful meaning) (one_map : On
     tallies = ap length is.tallies ∙ length-map final.parts (λ p. tally_in meaning p.worker.doing)
         ∙ parts_long meaning t start is.run.works is.run.are_works final is.given (printed.follows meaning l t shows start told ready is);
     queued = queued;
+    persists = persists;
+    split = all_told AreLoadsSplit (printed.promises meaning l t shows start told ready is).split;
     searches = searches meaning l t shows start told ready is;
   }

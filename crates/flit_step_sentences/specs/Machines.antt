@@ -1,11 +1,12 @@
 -- The machine that a trace's events were made on.
-use Rattle.std.specs.Prelude.{◌≡◌, ℕ, ◌≤◌, ◌==◌, List, [], ◌∷◌, ◌++◌, filter, length, Option, Some, None}
+use Rattle.std.specs.Prelude.{◌≡◌, ℕ, ◌≤◌, ◌==◌, ◌&&◌, List, [], ◌∷◌, ◌++◌, filter, length, count_by, Option, Some, None}
 use Rattle.std.specs.List.{AllByRecursion}
 use Rattle.flit_words.specs.declared.layouts.Layout.{Layout}
 use Rattle.flit_model.specs.States.{State, state_from}
 use Rattle.flit_model.specs.Effects.{after, answer}
 use Rattle.flit_model.specs.declared.found.Recovered.{Recovered}
 use Rattle.flit_report.specs.declared.content.Shown.{Shown}
+use Rattle.flit_structure.specs.Lawful.{is_persist}
 use Rattle.flit_turns.specs.Lines.{Line}
 
 -- the machine at the start, and after events
@@ -24,6 +25,10 @@ AreAnswered m (s ∷ ss) = (s.answer ≡ answer m s.event) × AreAnswered (after
 -- how many events a worker made
 abbrev pub events_made : ℕ → List Shown → ℕ
 events_made worker events = length (filter (λ s. s.worker == worker) events)
+
+-- how many of its events were write-backs
+abbrev pub persists_made : ℕ → List Shown → ℕ
+persists_made worker events = count_by (λ s. (s.worker == worker) && is_persist s.event) events
 
 -- the events stand in the turns that lines ask for, line after line: each is of its line's worker, and there are at most as
 -- many as the line says

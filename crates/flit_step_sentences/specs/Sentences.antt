@@ -1,6 +1,6 @@
 -- The headline, sentence by sentence, of what the command `step` prints of a trace. It is said over the trace, over what recovery
 -- finds where the trace starts, over the events that the workers made, and over what the report tells.
-use Rattle.std.specs.Prelude.{◌≡◌, ◌⊎◌, ℕ, ◌+◌, ◌-◌, ◌*◌, ◌<◌, ◌≤◌, Bool, true, false, List, [], ◌∷◌, length, Some, slice_get, if◌then◌else◌}
+use Rattle.std.specs.Prelude.{◌≡◌, ◌⊎◌, ℕ, ◌+◌, ◌-◌, ◌*◌, ◌^◌, min, ◌<◌, ◌≤◌, Bool, true, false, List, [], ◌∷◌, length, Some, slice_get, if◌then◌else◌}
 use Rattle.std.specs.List.{AllByRecursion}
 use Rattle.std.specs.FinMap as map_of_pairs
 use Rattle.flit_words.specs.declared.layouts.Layout.{Layout}
@@ -15,7 +15,7 @@ use Rattle.flit_model.specs.declared.calls.Reply.{Reply}
 use Rattle.flit_model.specs.declared.calls.Reply.TheVariants.{Full, Worn}
 use Rattle.flit_model.specs.declared.calls.Tally.{Tally}
 use Rattle.flit_model.specs.declared.found.Recovered.{Recovered}
-use Rattle.flit_structure.specs.Lawful.{IsBelowTop, excuses, fits, rows_needed}
+use Rattle.flit_structure.specs.Lawful.{IsBelowTop, AreLoadsSplit, excuses, fits, rows_needed}
 use Rattle.flit_trace.specs.Contents.{Content}
 use Rattle.flit_trace.specs.Drafts.{stop_of}
 use Rattle.flit_report.specs.declared.content.Shown.{Shown}
@@ -25,7 +25,7 @@ use Rattle.flit_histories.specs.Calls.{inserts_in}
 use Rattle.flit_histories.specs.Orders.{IsIn, StandsBefore}
 use Rattle.flit_step_reports.specs.StepReports.{plan_of, picks_in, version_of, TellsRecovery}
 use Rattle.flit_step_sentences.specs.Lines.{calls_asked, calls_told, lines_of, IsLineOf, entries_at, may_have_begun}
-use Rattle.flit_step_sentences.specs.Machines.{first_state, state_after, AreAnswered, AreInTurns, events_made}
+use Rattle.flit_step_sentences.specs.Machines.{first_state, state_after, AreAnswered, AreInTurns, events_made, persists_made}
 
 -- the map at the start
 abbrev pub map_at : Recovered → Map
@@ -96,9 +96,13 @@ pub record SaysHeadline (t : Content) (shows : Bool) (start : Recovered) (events
   -- who was stopped, and who was refused
   pub stops : KeepsStops t events told
   pub bounds : IsWithinBounds t.head.layout (length start.free.items) (state_after (first_state t.head.layout start) events) told
-  -- a tally of each worker; with one worker no write-back was queued because a tag showed; and the searches that a worker began
-  -- are at most its lost exchanges, in a tree its helped removals too, and one for each call that it may have begun
+  -- a tally of each worker; with one worker no write-back was queued because a tag showed; a tally counts the write-backs among
+  -- the worker's events, as far as 64 bits go; each load that it counts has queued its word or not; and the searches that a
+  -- worker began are at most its lost exchanges, in a tree its helped removals too, and one for each call that it may have begun
   pub tallies : length told.tallies ≡ t.head.layout.workers
   pub queued : t.head.layout.workers ≡ 1 → AllByRecursion (λ tally. tally.queued ≡ 0) told.tallies
+  pub persists : (worker : ℕ) (tally : Tally) → 1 ≤ worker → slice_get told.tallies (worker - 1) ≡ Some tally →
+      tally.persists ≡ min (persists_made worker events) (2 ^ 64 - 1)
+  pub split : AllByRecursion AreLoadsSplit told.tallies
   pub searches : (worker : ℕ) (tally : Tally) → 1 ≤ worker → slice_get told.tallies (worker - 1) ≡ Some tally → IsBelowTop tally →
       tally.tries ≤ excuses t.head.layout.kind tally + may_have_begun (lines_of worker told.lines)
