@@ -13,7 +13,7 @@ use Rattle.flit_model.specs.declared.calls.Placed.{Placed}
 use Rattle.flit_model.specs.declared.events.Event.{Event}
 use Rattle.flit_structure.specs.Moments.{Moment, numbers_of}
 use Rattle.flit_structure.specs.Meanings.{Meaning}
-use Rattle.flit_structure.specs.Lawful.{Lawful, IsRecoverable, HasMap}
+use Rattle.flit_structure.specs.Lawful.{Lawful, IsRecoverable, IsSized, HasMap}
 use Rattle.flit_structure.proofs.Waiting.{shadows_recover, unfinished, one_each, different_keys}
 use Rattle.flit_sched.specs.declared.players.Player.{Player}
 use Rattle.flit_sched.specs.declared.seats.Seat.{Seat}
@@ -66,6 +66,9 @@ module _ {S Op : Type 0} (meaning_of : S → Meaning Op) (laws : (s : S) → Law
 
   abbrev M : Moment Op
   M = moment_of (run_by (meaning_of s) content m settled placed players) held.kept.words held.kept.free
+
+  pub sized : IsSized (meaning_of s).layout m
+  sized = (laws s).sized M held.kept.holds
 
   shadows : IsRecoverable (meaning_of s).layout content m.shadows settled
   shadows = shadows_recover (meaning_of s) (laws s) M held.kept.holds

@@ -8,7 +8,9 @@ use crate::seats::Seat;
 use crate::settling::{settle, wait};
 use crate::starting::start_turn;
 use crate::turning::tally_of;
-use flit_model::{Ahead, Entry, Event, Image, Machine, Outcome, Placed, Recovered, Tally, Work};
+use flit_model::{
+    Ahead, Entry, Event, Image, Item, Machine, Outcome, Placed, Recovered, Tally, Work,
+};
 use flit_structure::Structure;
 use flit_words::NoMemory;
 use std::alloc::Global;
@@ -165,6 +167,14 @@ impl<S: Structure> Sched<S> {
         player.work.items.len() - player.over
     }
 
+    /// The items of a worker, those that are over too.
+    pub fn items(&self, worker: u32) -> &[Item]
+        requires { HasWorker self.now.run worker }
+        ensures { OfWorker self.now.run worker (λ p. result.now ≡ p.items) }
+    {
+        self.players[worker as usize - 1].work.items.as_slice()
+    }
+
     /// Gives a worker turns until its item is over, or it is out. It answers whether an item is over.
     fn run_item(&mut self, worker: u32) -> bool
         requires { HasWorker self.old.run worker }
@@ -261,6 +271,41 @@ impl<S: Structure> Sched<S> {
             rows: layout.rows,
             values: layout.values,
             words: crash_words(alloc, &self.machine, layout.words(), ahead)?,
+        })
+    }
+
+    /// The image that a crash leaves at this moment, as `image` says it, of a run that is let go. Of the run only the
+    /// machine is held while the words of the image are made. The error is NoMemory alone.
+    pub fn into_image(self, alloc: Global, ahead: &Ahead) -> Result<Image, NoMemory>
+        ensures shape { IfOk result (λ i. IsImageOf (S.meaning self.structure).layout i) }
+        ensures words { IfOk result (λ i. i.words.items ≡ crash_image (picks_of ahead.now)
+            self.run.state) }
+        ensures recovers { IfOk result (λ i. IsRecoverable (S.meaning self.structure).layout
+            self.run.content i.words.items (updates_with self.run (picks_of ahead.now))) }
+        ensures moment { IsAtMoment (S.meaning self.structure) self.run }
+        ensures ahead { AreAheadOf (S.meaning self.structure) self.run }
+    {
+        let Sched {
+            structure,
+            first_keys,
+            first_values,
+            machine,
+            settled,
+            placed,
+            players,
+            waiters,
+            keys,
+            values,
+        } = self;
+        let layout = *structure.layout();
+        drop((structure, first_keys, first_values, settled, placed));
+        drop((players, waiters, keys, values));
+        Ok(Image {
+            kind: layout.kind,
+            buckets: layout.buckets,
+            rows: layout.rows,
+            values: layout.values,
+            words: crash_words(alloc, &machine, layout.words(), ahead)?,
         })
     }
 
