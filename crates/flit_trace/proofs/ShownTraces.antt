@@ -1,5 +1,6 @@
 -- What the fields of a trace show.
-use Rattle.std.proofs.Common.{◌≡◌, ℕ, suc, zero, Bool, List, [], ◌∷◌, map, get_or, sym, refl}
+use Rattle.std.proofs.Common.{◌≡◌, ℕ, suc, zero, Bool, List, [], ◌∷◌, map, get_or, sym, refl, ap}
+use Rattle.std.specs.List.{AllByRecursion}
 use Rattle.flit_model.specs.declared.calls.Ahead.{Ahead}
 use Rattle.flit_model.specs.declared.calls.Ahead.TheVariants as ahead
 use Rattle.flit_trace.specs.declared.entries.Entry.{Entry}
@@ -12,6 +13,12 @@ pub seen_script : {X : Type 0} (entries : X → List Entry) (xs : List X) (k : �
 seen_script entries [] k = refl
 seen_script entries (x ∷ xs) zero = refl
 seen_script entries (x ∷ xs) (suc k) = seen_script entries xs k
+
+-- scripts with no lines show none
+pub no_lines : {X : Type 0} (entries : X → List Entry) (xs : List X) → AllByRecursion (λ script. script ≡ []) (map entries xs) →
+    AllByRecursion (λ script. script ≡ []) (map (λ v. map numbered (entries v)) xs)
+no_lines entries [] h = tt
+no_lines entries (x ∷ xs) h = (ap (λ es. map numbered es) h.0, no_lines entries xs h.1)
 
 pub record IsNamed (a : Ahead) (all : Bool) (words : List ℕ) : Type 0 where
   pub all_is : names_all a ≡ all

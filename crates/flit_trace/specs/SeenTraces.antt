@@ -1,5 +1,6 @@
 -- What a caller sees of a trace that was read.
 use Rattle.std.specs.Prelude.{◌≡◌, ℕ, ◌-◌, ◌≤◌, Bool, Option, List, [], length, slice_index_or}
+use Rattle.std.specs.List.{AllByRecursion}
 use Rattle.flit_model.specs.declared.calls.Item.{Item}
 use Rattle.flit_trace.specs.declared.heads.Head.{Head}
 use Rattle.flit_trace.specs.Contents.{Content, script_of, calls_of}
@@ -23,6 +24,17 @@ script_at t worker = slice_index_or t.scripts (worker - 1) []
 pub record IsWorker (t : SeenTrace) (worker : ℕ) : Type 0 where
   pub least : 1 ≤ worker
   pub most : worker ≤ t.head.layout.workers
+
+-- this is the trace of before with no line in its scripts, and all else as it was
+pub record IsWithoutScripts (before after : SeenTrace) : Type 0 where
+  pub head : after.head ≡ before.head
+  pub calls : after.calls ≡ before.calls
+  pub scripts : AllByRecursion (λ script. script ≡ []) after.scripts
+  pub stops : after.stops ≡ before.stops
+  pub turns : after.turns ≡ before.turns
+  pub all_ahead : after.all_ahead ≡ before.all_ahead
+  pub ahead : after.ahead ≡ before.ahead
+  pub start : after.start ≡ before.start
 
 -- a trace of this content is seen
 pub record Shows (t : SeenTrace) (c : Content) : Type 0 where

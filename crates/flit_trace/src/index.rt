@@ -23,7 +23,7 @@ pub(crate) struct Index {
 }
 
 /// An empty script for each worker.
-fn empty_scripts(alloc: Global) -> Result<Vec<Vec<Entry>>, AllocError>
+pub(crate) fn empty_scripts(alloc: Global) -> Result<Vec<Vec<Entry>>, AllocError>
     ensures whole { IfOk result (λ scripts. length scripts.items ≡ MOST_WORKERS) }
     ensures empty { IfOk result (λ scripts. AllByRecursion (λ script. script ≡ [])
         (map (λ script. script.items) scripts.items)) }

@@ -7,10 +7,12 @@ ghost use Rattle.flit_trace.specs.Ahead.{Names};
 use crate::drafts::Draft;
 use crate::entries::Entry;
 use crate::heads::Head;
-use crate::index::Index;
+use crate::index::{Index, empty_scripts};
 use crate::scripts::{Script, Turns};
 use flit_image::Image;
 use flit_model::Ahead;
+use flit_words::NoMemory;
+use std::alloc::Global;
 use std::marker::{Model, PhantomData};
 
 /// A trace that was read. It keeps what each call, evict and turn line says in at most 16 bytes, and scripts and
@@ -108,9 +110,62 @@ impl<'a> Trace<'a> {
 }
 
 impl Trace<'_> {
-    ghost use Rattle.std.specs.Prelude.{◌≤◌, MatchOption};
+    ghost use Rattle.std.specs.Prelude.{◌≤◌, IfOk, MatchOption};
     ghost use Rattle.flit_trace.specs.Drafts.{stop_of};
-    ghost use Rattle.flit_trace.specs.SeenTraces.{script_at, IsWorker};
+    ghost use Rattle.flit_trace.specs.SeenTraces.{script_at, IsWorker, IsWithoutScripts};
+
+    /// The same trace, for which the text that was read needn't stay lent.
+    pub fn into_owned(self) -> Trace<'static>
+        ensures { result ≡ self.entry }
+    {
+        let Trace {
+            head,
+            calls,
+            scripts,
+            stops,
+            turns,
+            ahead,
+            start,
+            text: _,
+        } = self;
+        Trace {
+            head,
+            calls,
+            scripts,
+            stops,
+            turns,
+            ahead,
+            start,
+            text: PhantomData,
+        }
+    }
+
+    /// The trace with no line in its scripts, which are let go. The error is NoMemory alone.
+    pub fn without_scripts(self, alloc: Global) -> Result<Trace<'static>, NoMemory>
+        ensures { IfOk result (IsWithoutScripts self.entry) }
+    {
+        let Trace {
+            head,
+            calls,
+            scripts,
+            stops,
+            turns,
+            ahead,
+            start,
+            text: _,
+        } = self;
+        drop(scripts);
+        Ok(Trace {
+            head,
+            calls,
+            scripts: empty_scripts(alloc)?,
+            stops,
+            turns,
+            ahead,
+            start,
+            text: PhantomData,
+        })
+    }
 
     /// What the trace says before its body. The layout has as many slots as the place.
     pub fn head(&self) -> Head
