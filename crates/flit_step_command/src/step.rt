@@ -40,10 +40,10 @@ fn wanted_by(words: &Words) -> Option<Wanted>
 }
 
 /// What is wanted of the trace that the bytes are.
-fn text_of_bytes(alloc: Global, bytes: &[u8], wanted: Wanted) -> Result<Vec<u8>, Status>
-    ensures text { IfOk result (λ text. IsTextOf bytes.now wanted text.items) }
+fn text_of_bytes(alloc: Global, bytes: Vec<u8>, wanted: Wanted) -> Result<Vec<u8>, Status>
+    ensures text { IfOk result (λ text. IsTextOf bytes.items wanted text.items) }
     ensures kind { IfErr result IsOfBytes }
-    ensures none { IfErr result (HasNoReport bytes.now) }
+    ensures none { IfErr result (HasNoReport bytes.items) }
 {
     let text = text_of_trace(alloc, bytes, wanted)?;
     Ok(text)
@@ -68,7 +68,7 @@ impl Answering for Stepping {
         ensures kind { IfErr result IsOfBytes }
         ensures none { IfErr result (HasNoReport input.items) }
     {
-        text_of_bytes(alloc, &input, self.wanted)
+        text_of_bytes(alloc, input, self.wanted)
     }
 }
 

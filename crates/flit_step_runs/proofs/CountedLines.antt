@@ -1,43 +1,22 @@
 -- What is counted of told lines, worker by worker, is what is counted of them in the order of the trace.
-use Rattle.std.proofs.Common.{◌≡◌, ◌⊎◌, ℕ, zero, suc, ◌+◌, ◌≤◌, ◌<◌, ◌++◌, ◌==◌, Bool, true, false, List, [], ◌∷◌, map, flat_map, length, count_by, inl, inr, refl, sym, ◌∙◌, ap, subst, append_assoc, arith}
+use Rattle.std.proofs.Common.{◌≡◌, ◌⊎◌, ℕ, zero, suc, ◌+◌, ◌≤◌, ◌<◌, ◌++◌, ◌==◌, Bool, true, false, List, [], ◌∷◌, map, flat_map, length, count_by, inl, inr, refl, sym, ◌∙◌, ap, subst, arith}
 use Rattle.std.proofs.lemmas.Bool.{eqb-true, eqb-false, ne_eqb, cases_lt}
 use Rattle.std.proofs.lemmas.List.{map-append, length-append}
 use Rattle.std.specs.List.{AllByRecursion, range_with_len}
 use Rattle.flit_model.proofs.Counting.{count_by-append}
-use Rattle.flit_model.specs.declared.calls.Item.{Item}
 use Rattle.flit_report.specs.Content.{is_done, is_stopped, is_full, is_worn}
 use Rattle.flit_report.specs.declared.content.Line.{Line}
-use Rattle.flit_trace.specs.Contents.{Content, ItemLine}
+use Rattle.flit_trace.specs.Contents.{Content, ItemLine, script_of}
 use Rattle.flit_trace.specs.Rights.{IsRightLine}
-use Rattle.flit_trace.specs.SeenTraces.{SeenTrace, Shows, script_at}
 use Rattle.flit_sched.specs.Runs.{Run}
-use Rattle.flit_step_reports.specs.StepReports.{lines_by, told_item, told_lines}
+use Rattle.flit_step_reports.specs.StepReports.{items_in, lines_by, told_item, told_lines}
 use Rattle.flit_step_runs.specs.Counts.{AreCountsOf}
-use Rattle.flit_step_runs.specs.Tellings.{numbered_item, numbered_script}
+use Rattle.flit_step_runs.specs.Tellings.{numbered_item, told_items}
 use Rattle.flit_step_runs.specs.declared.counting.Counts.{Counts}
+use Rattle.flit_step_runs.proofs.ItemLaws.{script_items}
 use Rattle.flit_step_runs.proofs.MergedLines.{part, item_stripped, other_part, own_part}
 use Rattle.flit_step_runs.proofs.OrderedLines.{named}
-use Rattle.flit_step_runs.proofs.ToldLaws.{script_more, worker_more}
-
--- ---- one more
-
--- one line more of a script
-pub stripped_more : {Op : Type 0} (r : Run Op) (worker : ℕ) (ys : List (ℕ × Item)) (x : ℕ × Item) →
-    map (λ l. l.1) (numbered_script r worker 0 (ys ++ x ∷ [])) ≡ map (λ l. l.1) (numbered_script r worker 0 ys) ++ told_item r worker (0 + length ys) x.1
-stripped_more r worker ys x =
-    ap (map (λ l. l.1)) (script_more r worker 0 ys x)
-    ∙ map-append (λ l. l.1) (numbered_script r worker 0 ys) (numbered_item r x.0 worker (0 + length ys) x.1)
-    ∙ ap (λ xs. map (λ l. l.1) (numbered_script r worker 0 ys) ++ xs) (item_stripped r x.0 worker (0 + length ys) x.1)
-
-pub counts_more : {Op : Type 0} (r : Run Op) (worker item : ℕ) (ys : List (ℕ × Item)) (x : ℕ × Item) (counts : Counts) (lines : List Line) →
-    item ≡ length ys → AreCountsOf counts ((lines ++ map (λ l. l.1) (numbered_script r worker 0 ys)) ++ told_item r worker item x.1) →
-    AreCountsOf counts (lines ++ map (λ l. l.1) (numbered_script r worker 0 (ys ++ x ∷ [])))
-counts_more r worker item ys x counts lines at h =
-    let so_far : item ≡ 0 + length ys = omega (arith, at) in
-    subst (AreCountsOf counts)
-    (append_assoc lines (map (λ l. l.1) (numbered_script r worker 0 ys)) (told_item r worker item x.1)
-    ∙ ap (λ n. lines ++ (map (λ l. l.1) (numbered_script r worker 0 ys) ++ told_item r worker n x.1)) so_far
-    ∙ ap (λ xs. lines ++ xs) (sym (stripped_more r worker ys x))) h
+use Rattle.flit_step_runs.proofs.ToldLaws.{worker_more}
 
 -- one worker more
 pub counts_worker : (f : ℕ → List Line) (n : ℕ) (counts : Counts) → AreCountsOf counts (flat_map f (range_with_len 1 n) ++ f (n + 1)) →
@@ -115,26 +94,21 @@ module _ (m : List Line → ℕ) (none : m [] ≡ 0) (joined : (xs ys : List Lin
 
 -- ---- the counts of all lines
 
-module _ {Op : Type 0} (r : Run Op) (trace : SeenTrace) (t : Content) (shows : Shows trace t) (right : AllByRecursion (IsRightLine t.head.layout) t.items) where
+module _ {Op : Type 0} (r : Run Op) (t : Content) (right : AllByRecursion (IsRightLine t.head.layout) t.items) where
   abbrev by_workers : List Line
-  by_workers = flat_map (λ v. map (λ l. l.1) (numbered_script r v 0 (script_at trace v))) (range_with_len 1 trace.head.layout.workers)
+  by_workers = flat_map (λ v. told_items r v 0 (items_in t v)) (range_with_len 1 t.head.layout.workers)
 
   same_count : (m : List Line → ℕ) → m [] ≡ 0 → ((xs ys : List Line) → m (xs ++ ys) ≡ m xs + m ys) → m by_workers ≡ m (told_lines r [] t.items)
   same_count m none joined =
-      let workers = ap (λ h. h.layout.workers) shows.head in
-      ap m (parts_same 1 trace.head.layout.workers (omega arith) (omega arith))
-      ∙ ap (λ n. m (flat_map (λ v. map (λ l. l.1) (part r [] t.items v)) (range_with_len 1 n))) workers
+      ap m (parts_same 1 t.head.layout.workers)
       ∙ counted m none joined r [] t.items t.head.layout.workers (named r t.head.layout t.items right)
     where
-      parts_same : (a n : ℕ) → 1 ≤ a → a + n ≤ trace.head.layout.workers + 1 →
-          flat_map (λ v. map (λ l. l.1) (numbered_script r v 0 (script_at trace v))) (range_with_len a n)
+      parts_same : (a n : ℕ) → flat_map (λ v. told_items r v 0 (items_in t v)) (range_with_len a n)
           ≡ flat_map (λ v. map (λ l. l.1) (part r [] t.items v)) (range_with_len a n)
-      parts_same a zero some le = refl
-      parts_same a (suc n) some le =
-          ap (λ s. map (λ l. l.1) (numbered_script r a 0 s)
-          ++ flat_map (λ v. map (λ l. l.1) (numbered_script r v 0 (script_at trace v))) (range_with_len (a + 1) n))
-          (shows.scripts a (record { least = some; most = omega (arith, le) }))
-          ∙ ap (λ xs. map (λ l. l.1) (part r [] t.items a) ++ xs) (parts_same (a + 1) n (omega arith) (omega (arith, le)))
+      parts_same a zero = refl
+      parts_same a (suc n) =
+          ap (λ xs. xs ++ flat_map (λ v. told_items r v 0 (items_in t v)) (range_with_len (a + 1) n)) (sym (script_items r a 0 (script_of t.items a)))
+          ∙ ap (λ xs. map (λ l. l.1) (part r [] t.items a) ++ xs) (parts_same (a + 1) n)
 
   pub counts_told : (counts : Counts) → AreCountsOf counts by_workers → AreCountsOf counts (told_lines r [] t.items)
   counts_told counts h = record {

@@ -17,7 +17,7 @@ use Rattle.flit_histories.proofs.LedParts.{follows_long, follows_led, part_led}
 use Rattle.flit_turns.proofs.LineLaws.{lines_follow}
 use Rattle.flit_step_reports.specs.StepReports.{items_in, plan_of}
 use Rattle.flit_step_runs.specs.Plays.{IsPlayed}
-use Rattle.flit_step_runs.specs.Tellings.{HoldsScripts}
+use Rattle.flit_step_runs.specs.Tellings.{HoldsItems, HoldsScripts}
 use Rattle.flit_step_runs.proofs.OpenedLaws.{opened_long}
 use Rattle.flit_step_runs.proofs.TellingLaws.{at_place}
 
@@ -55,28 +55,21 @@ module _ {Op : Type 0} (meaning : Meaning Op) where
   few_items zero (x ∷ xs) w at = let same : x ≡ w = cc in let long = ap (λ y. length y.items.items) same in omega (arith, long)
   few_items (suc i) (x ∷ xs) w at = let h = few_items i xs w at in omega (arith, h)
 
-  module _ (trace : SeenTrace) (t : Content) (start : Recovered) (kept : Bool) (final : Run Op) (before after : List Shown) (shows : Shows trace t)
+  module _ (t : Content) (start : Recovered) (kept : Bool) (final : Run Op) (before after : List Shown)
       (h : IsPlayed meaning t start kept final before after) where
-    long : length final.parts ≡ trace.head.layout.workers
+    long : length final.parts ≡ t.head.layout.workers
     long =
         let first = opened_run meaning start h.works in
         follows_long meaning first final h.given (lines_follow meaning first final (plan_of t) h.given h.follows)
-        ∙ opened_long meaning start t h.works first refl h.are_works ∙ sym (ap (λ x. x.layout.workers) shows.head)
-
-    script_long : (worker : ℕ) → IsWorker trace worker → length (items_in t worker) ≡ length (script_at trace worker)
-    script_long worker is = length-map (script_of t.items worker) (λ l. l.1) ∙ ap length (sym (shows.scripts worker is))
+        ∙ opened_long meaning start t h.works first refl h.are_works
 
     -- the first part of a worker, with its work
-    opened_at : (worker : ℕ) → IsWorker trace worker → (p : Part Op) × (a : List (Part Op)) × (b : List (Part Op)) ×
-        IsPart (opened_run meaning start h.works) worker a p b × (length p.items ≡ length (script_at trace worker))
-        × (length p.items ≤ item_count h.works)
-    opened_at worker is =
+    opened_at : (worker : ℕ) → 1 ≤ worker → worker ≤ t.head.layout.workers → (p : Part Op) × (a : List (Part Op)) × (b : List (Part Op)) ×
+        IsPart (opened_run meaning start h.works) worker a p b × (p.items ≡ items_in t worker) × (length p.items ≤ item_count h.works)
+    opened_at worker least most =
         let first = opened_run meaning start h.works in
-        let least = is.least in
-        let most = is.most in
-        let workers = ap (λ x. x.layout.workers) shows.head in
         let all = opened_long meaning start t h.works first refl h.are_works in
-        let x = at_place first.parts (worker - 1) (omega (arith, least, most, workers, all)) in
+        let x = at_place first.parts (worker - 1) (omega (arith, least, most, all)) in
         let before_it = x.before in
         let w = part_opened 1 (worker - 1) h.works x.item x.got in
         let place : 1 + (worker - 1) ≡ worker = omega (arith, least) in
@@ -87,25 +80,45 @@ module _ {Op : Type 0} (meaning : Meaning Op) where
           take (worker - 1) first.parts,
           drop (suc (worker - 1)) first.parts,
           record { is = x.parted; number = omega (arith, least, before_it) },
-          ap length items ∙ script_long worker is,
+          items,
           omega (arith, few, same),
         )
 
-    held_items : (worker : ℕ) → IsWorker trace worker → OfWorker final worker (λ p. length p.items ≡ length (script_at trace worker))
-    held_items worker is a p b at =
+    held_items : (worker : ℕ) → 1 ≤ worker → worker ≤ t.head.layout.workers → OfWorker final worker (λ p. p.items ≡ items_in t worker)
+    held_items worker least most a p b at =
         let first = opened_run meaning start h.works in
-        let o = opened_at worker is in
+        let o = opened_at worker least most in
         let led = follows_led meaning first first final h.given (lines_follow meaning first final (plan_of t) h.given h.follows) here in
         let x = part_led meaning first final led worker o.1 o.0 o.2 o.3 in
         let n = x.is.number in
         let m = at.number in
         let same = (same_split a b x.before x.behind p x.part (sym at.is ∙ x.is.is) (omega (arith, n, m))).here in
-        ap (λ q. length q.items) same ∙ ap length x.later.items ∙ o.4
+        ap (λ q. q.items) same ∙ x.later.items ∙ o.4
 
-    pub holds_scripts : HoldsScripts trace final
-    holds_scripts = record {
+    pub holds_items : HoldsItems t final
+    holds_items = record {
       long = long;
       items = held_items;
-      few = λ worker is. let o = opened_at worker is in let same = o.4 in let few = o.5 in let most = h.starts.right.most in
-          omega (arith, same, few, most);
+      few = λ worker least most. let o = opened_at worker least most in let same = ap length o.4 in let few = o.5 in
+          let all = h.starts.right.most in omega (arith, same, few, all);
     }
+
+  pub holds_scripts : (trace : SeenTrace) (t : Content) (start : Recovered) (kept : Bool) (final : Run Op) (before after : List Shown) → Shows trace t →
+      IsPlayed meaning t start kept final before after → HoldsScripts trace final
+  holds_scripts trace t start kept final before after shows h =
+      let i = holds_items t start kept final before after h in
+      let workers = ap (λ x. x.layout.workers) shows.head in
+      record {
+        long = i.long ∙ sym workers;
+        items = λ worker is a p b at.
+            let most = is.most in
+            ap length (i.items worker is.least (omega (arith, most, workers)) a p b at) ∙ script_long worker is;
+        few = λ worker is.
+            let most = is.most in
+            let few = i.few worker is.least (omega (arith, most, workers)) in
+            let same = script_long worker is in
+            omega (arith, few, same);
+      }
+    where
+      script_long : (worker : ℕ) → IsWorker trace worker → length (items_in t worker) ≡ length (script_at trace worker)
+      script_long worker is = length-map (script_of t.items worker) (λ l. l.1) ∙ ap length (sym (shows.scripts worker is))

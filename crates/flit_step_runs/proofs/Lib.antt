@@ -7,5 +7,6 @@ pub mod ToldLaws
 pub mod HeldScripts
 pub mod MergedLines
 pub mod OrderedLines
+pub mod ItemLaws
 pub mod CountedLines
 pub mod SummaryLaws

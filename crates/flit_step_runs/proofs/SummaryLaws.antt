@@ -1,12 +1,11 @@
 -- The report that a summary counts: that of the run, with the history and the tallies, which nobody has to make.
-use Rattle.std.proofs.Common.{◌≡◌, ℕ, true, false, List, [], map, length, refl, sym, ◌∙◌, ap, subst}
+use Rattle.std.proofs.Common.{◌≡◌, ℕ, true, false, List, [], map, length, refl, subst}
 use Rattle.flit_model.specs.CrashImages.{crash_image}
 use Rattle.flit_model.specs.Recovery.{IsImageOf, IsRecovery, layout_of}
 use Rattle.flit_model.specs.declared.calls.Ahead.{Ahead}
 use Rattle.flit_model.specs.declared.found.Image.{Image}
 use Rattle.flit_model.specs.declared.found.Recovered.{Recovered}
 use Rattle.flit_report.specs.Content.{Content as Told, text_of}
-use Rattle.flit_report.specs.declared.content.Line.{Line}
 use Rattle.flit_report.specs.declared.content.Shown.{Shown}
 use Rattle.flit_structure.specs.Meanings.{Meaning}
 use Rattle.flit_trace.specs.Ahead.{Names}

@@ -34,6 +34,11 @@ pub record CanPlay {Op : Type 0} (meaning : Meaning Op) (start : Recovered) (t :
 abbrev pub CanPlaySeen : {Op : Type 0} → Meaning Op → Recovered → SeenTrace → Type 0
 CanPlaySeen meaning start trace = (t : Content) × Shows trace t × CanPlay meaning start t
 
+-- a trace is seen that has the workers and the turn lines of this content
+pub record ShowsTurns (trace : SeenTrace) (t : Content) : Type 0 where
+  pub head : trace.head ≡ t.head
+  pub turns : trace.turns ≡ t.turns
+
 -- A run is that of the trace's turns, opened at what recovery found; their events are shown, where they are kept, behind those
 -- that were shown before.
 pub record IsPlayed {Op : Type 0} (meaning : Meaning Op) (t : Content) (start : Recovered) (kept : Bool) (final : Run Op)

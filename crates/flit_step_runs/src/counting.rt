@@ -1,21 +1,21 @@
-ghost use Rattle.std.specs.Prelude.{◌≡◌, ◌<◌, ◌≤◌, ◌+◌, ◌++◌, ◌^◌, List, [], ◌∷◌, length, map};
+ghost use Rattle.std.specs.Prelude.{◌≡◌, ◌<◌, ◌≤◌, ◌+◌, ◌++◌, ◌^◌, List, [], ◌∷◌, length};
 ghost use Rattle.std.specs.List.{AllByRecursion};
 ghost use Rattle.flit_words.specs.declared.limits.TheConstants.{MOST_CALLS};
 ghost use Rattle.flit_report.specs.Content.{is_done, is_stopped, is_full, is_worn};
 ghost use Rattle.flit_report.specs.declared.content.Line.{Line as Told_line};
 ghost use Rattle.flit_trace.specs.Contents.{Content};
 ghost use Rattle.flit_trace.specs.Rights.{IsRightLine};
-ghost use Rattle.flit_trace.specs.SeenTraces.{Shows};
 ghost use Rattle.flit_sched.specs.Views.{HasWorker, OfWorker};
 ghost use Rattle.flit_step_reports.specs.StepReports.{told_item, told_lines};
 ghost use Rattle.flit_step_runs.specs.Counts.{AreCountsOf};
-ghost use Rattle.flit_step_runs.specs.Tellings.{numbered_script, HoldsScripts};
+ghost use Rattle.flit_step_runs.specs.Plays.{ShowsTurns};
+ghost use Rattle.flit_step_runs.specs.Tellings.{told_items, HoldsItems};
 
 use crate::lines::outcome_in;
 use flit_model::{Item, Outcome, Reply};
 use flit_sched::Sched;
 use flit_structure::Structure;
-use flit_trace::{Script, Trace};
+use flit_trace::Trace;
 
 /// How many calls there are, and how many of them came out in each way.
 #[derive(Clone, Copy, Debug, PartialEq, Eq)]
@@ -108,35 +108,30 @@ fn with_item<S: Structure>(
     }
 }
 
-/// These counts with what is told of the lines of a worker.
-fn with_script<S: Structure>(
-    sched: &Sched<S>,
-    worker: u32,
-    script: Script<'_>,
-    counts: Counts,
-) -> Counts
+/// These counts with what is told of the items of a worker.
+fn with_items<S: Structure>(sched: &Sched<S>, worker: u32, items: &[Item], counts: Counts) -> Counts
     requires worker { HasWorker sched.now.run worker }
-    requires items { OfWorker sched.now.run worker (λ p. length p.items ≡ length script) }
-    requires few { length script ≤ MOST_CALLS }
+    requires items { OfWorker sched.now.run worker (λ p. items.now ≡ p.items) }
+    requires few { length items.now ≤ MOST_CALLS }
     requires counts { (lines : List Told_line) × AreCountsOf counts lines }
-    requires room { counts.calls + length script < 2 ^ 32 }
+    requires room { counts.calls + length items.now < 2 ^ 32 }
     ensures counts { (lines : List Told_line) → AreCountsOf counts lines → AreCountsOf result
-        (lines ++ map (λ l. l.1) (numbered_script sched.now.run worker 0 script.entry)) }
-    ensures calls { result.calls ≤ counts.calls + length script.entry }
+        (lines ++ told_items sched.now.run worker 0 items.now) }
+    ensures calls { result.calls ≤ counts.calls + length items.now }
 {
     let mut counted = counts;
     let mut item = 0;
-    for line in script {
-        counted = with_item(sched, worker, item, line.1, counted);
+    for line in items {
+        counted = with_item(sched, worker, item, *line, counted);
         item += 1;
     }
     counted
 }
 
-/// The counts of the lines of the report of a run on which a trace was played.
+/// The counts of the lines of the report of a run on which a trace was played. The scripts of the trace aren't read.
 pub fn counts_of<S: Structure>(sched: &Sched<S>, trace: &Trace) -> Counts
-    requires { HoldsScripts trace.now sched.now.run }
-    ensures { (t : Content) → Shows trace.now t →
+    requires { (t : Content) × ShowsTurns trace.now t × HoldsItems t sched.now.run }
+    ensures { (t : Content) → ShowsTurns trace.now t → HoldsItems t sched.now.run →
         AllByRecursion (IsRightLine t.head.layout) t.items →
         AreCountsOf result (told_lines sched.now.run [] t.items) }
 {
@@ -144,7 +139,7 @@ pub fn counts_of<S: Structure>(sched: &Sched<S>, trace: &Trace) -> Counts
     let mut counts = no_lines();
     for before in 0..workers {
         let worker = before + 1;
-        counts = with_script(sched, worker, trace.script(worker), counts);
+        counts = with_items(sched, worker, sched.items(worker), counts);
     }
     counts
 }

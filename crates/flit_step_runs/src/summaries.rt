@@ -7,7 +7,8 @@ ghost use Rattle.flit_step_runs.specs.Counts.{AreCountsOf, IsSummaryOf};
 ghost use Rattle.flit_step_runs.specs.Plays.{CanPlay, CanPlaySeen};
 
 use crate::counting::{Counts, counts_of};
-use crate::opened::run_of;
+use crate::opened::run_of_works;
+use crate::works::works_of;
 use flit_lawful_images::recover_lawful_owned;
 use flit_recover::Recovered;
 use flit_step_reports::plans_are_runs;
@@ -50,15 +51,15 @@ pub fn summary_of(alloc: Global, counts: Counts, keys: usize) -> Result<Vec<u8>,
 }
 
 /// The text of the summary of the run of a trace from what recovery found. Nothing is made that a summary doesn't count: no
-/// lines, no history and no tallies. The error is NoMemory alone.
+/// lines, no history and no tallies; and the trace's scripts are let go before the run. The error is NoMemory alone.
 pub fn summary_of_run<S: Structure>(
     alloc: Global,
     structure: S,
     start: Recovered,
-    trace: &Trace,
+    trace: Trace<'_>,
 ) -> Result<Vec<u8>, NoMemory>
-    requires { CanPlaySeen (S.meaning structure) start trace.now }
-    ensures { IfOk result (λ text. (t : Content) → Shows trace.now t →
+    requires { CanPlaySeen (S.meaning structure) start trace }
+    ensures { IfOk result (λ text. (t : Content) → Shows trace.entry t →
         CanPlay (S.meaning structure) start t →
         IsSummaryOf (S.meaning structure) t start text.items) }
 {
@@ -67,11 +68,11 @@ pub fn summary_of_run<S: Structure>(
         kept: false,
         shown: Vec::new(alloc),
     };
-    let ahead = trace.ahead();
-    let sched = run_of(alloc, structure, start, trace, &mut events)?;
-    let counts = counts_of(&sched, trace);
-    let image = sched.image(alloc, ahead)?;
-    drop(sched);
+    let works = works_of(alloc, &trace)?;
+    let trace = trace.without_scripts(alloc)?;
+    let sched = run_of_works(alloc, structure, start, works, &trace, &mut events)?;
+    let counts = counts_of(&sched, &trace);
+    let image = sched.into_image(alloc, trace.ahead())?;
     let found = recover_lawful_owned(alloc, image)?;
     let text = summary_of(alloc, counts, found.keys.len())?;
     Ok(text)

@@ -67,8 +67,7 @@ pub fn tell<S: Structure>(
     let ahead = trace.ahead();
     let tallies = tallies_of(alloc, &sched, layout.workers)?;
     let history = sched.history(alloc, ahead)?;
-    let image = sched.image(alloc, ahead)?;
-    drop(sched);
+    let image = sched.into_image(alloc, ahead)?;
     let rows = image.rows;
     let found = recover_lawful_owned(alloc, image)?;
     let free = count_rows(&found.free, rows);

@@ -15,4 +15,4 @@ pub use laws::{
 pub use reports::told;
 pub use runs::{Wanted, image_of_run, text_of_run};
 pub use starts::start_of;
-pub use texts::{NoText, text_of_trace, trace_and_start};
+pub use texts::{NoText, owned_trace_and_start, text_of_trace, trace_and_start};

@@ -26,15 +26,15 @@ fn told_over<P: Placement + Drop>(
     alloc: Global,
     place: P,
     start: Recovered,
-    trace: &Trace,
+    trace: Trace<'_>,
     wanted: Wanted,
 ) -> Result<Vec<u8>, NoMemory>
-    requires found { IsRecovery trace.now.head.layout start.image.words.items
+    requires found { IsRecovery trace.head.layout start.image.words.items
         start.keys.items start.values.items start.free.items }
-    requires playable { CanPlaySeen (structure_of trace.now.head.layout (P.place place)
-        trace.now.head.layout.kind start.free.items).meaning start trace.now }
-    ensures { IfOk result (λ text. IsToldSeen (structure_of trace.now.head.layout (P.place place)
-        trace.now.head.layout.kind start.free.items).meaning trace.now wanted start
+    requires playable { CanPlaySeen (structure_of trace.head.layout (P.place place)
+        trace.head.layout.kind start.free.items).meaning start trace }
+    ensures { IfOk result (λ text. IsToldSeen (structure_of trace.entry.head.layout (P.place place)
+        trace.entry.head.layout.kind start.free.items).meaning trace.entry wanted start
         text.items) }
 {
     recovered_opens();
@@ -52,13 +52,13 @@ fn told_over<P: Placement + Drop>(
 pub fn told(
     alloc: Global,
     start: Recovered,
-    trace: &Trace,
+    trace: Trace<'_>,
     wanted: Wanted,
 ) -> Result<Vec<u8>, NoMemory>
-    requires read { WasRead trace.now }
-    requires playable { IsPlayable trace.now.head }
-    requires starts { StartsSeen trace.now start }
-    ensures { IfOk result (λ text. IsToldOfTrace trace.now wanted start text.items) }
+    requires read { WasRead trace }
+    requires playable { IsPlayable trace.head }
+    requires starts { StartsSeen trace start }
+    ensures { IfOk result (λ text. IsToldOfTrace trace.entry wanted start text.items) }
 {
     traces_play();
     within_limits();

@@ -68,7 +68,7 @@ pub fn image_of_run<S: Structure>(
     };
     let ahead = trace.ahead();
     let sched = run_of(alloc, structure, start, trace, &mut events)?;
-    let image = sched.image(alloc, ahead)?;
+    let image = sched.into_image(alloc, ahead)?;
     Ok(image)
 }
 
@@ -77,19 +77,19 @@ pub fn text_of_run<S: Structure>(
     alloc: Global,
     structure: S,
     start: Recovered,
-    trace: &Trace,
+    trace: Trace<'_>,
     wanted: Wanted,
 ) -> Result<Vec<u8>, NoMemory>
-    requires { CanPlaySeen (S.meaning structure) start trace.now }
+    requires { CanPlaySeen (S.meaning structure) start trace }
     ensures { IfOk result (λ text.
-        IsToldSeen (S.meaning structure) trace.now wanted start text.items) }
+        IsToldSeen (S.meaning structure) trace.entry wanted start text.items) }
 {
     match wanted {
-        Wanted::Report => report_text_of_run(alloc, structure, start, trace, false),
-        Wanted::Events => report_text_of_run(alloc, structure, start, trace, true),
+        Wanted::Report => report_text_of_run(alloc, structure, start, &trace, false),
+        Wanted::Events => report_text_of_run(alloc, structure, start, &trace, true),
         Wanted::Summary => summary_of_run(alloc, structure, start, trace),
         Wanted::Image => {
-            let image = image_of_run(alloc, structure, start, trace)?;
+            let image = image_of_run(alloc, structure, start, &trace)?;
             write_image(alloc, &image)
         }
     }

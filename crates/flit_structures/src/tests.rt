@@ -14,7 +14,7 @@ fn is_told(
     wanted: Wanted,
     text: &[u8],
 ) -> Result<(), Fail> {
-    let Ok(told) = text_of_trace(alloc, trace, wanted) else {
+    let Ok(told) = text_of_trace(alloc, Vec::from_slice(alloc, trace)?, wanted) else {
         return Err(Fail::from("there is no text"));
     };
     assert_eq!(rt; told.as_slice(), text);
@@ -259,7 +259,7 @@ fn has_none(
     wanted: Wanted,
     none: NoText,
 ) -> Result<(), Fail> {
-    let Err(told) = text_of_trace(alloc, trace, wanted) else {
+    let Err(told) = text_of_trace(alloc, Vec::from_slice(alloc, trace)?, wanted) else {
         return Err(Fail::from("there is a text"));
     };
     assert_eq!(rt; told, none);

@@ -84,18 +84,35 @@ pub fn trace_and_start(alloc: Global, bytes: &[u8]) -> Result<(Trace<'_>, Recove
     Ok((trace, start))
 }
 
-/// The text that is wanted of the trace that the bytes are, of its run on the structure that it names: the turns of its turn
-/// lines are given, and then each worker runs until it is out.
+/// The same of bytes that are let go.
 ///
 /// # Errors
 /// Those of `trace_and_start`, in the same order.
-pub fn text_of_trace(alloc: Global, bytes: &[u8], wanted: Wanted) -> Result<Vec<u8>, NoText>
-    ensures text { IfOk result (λ text. IsTextOf bytes.now wanted text.items) }
-    ensures none { IfErr result (HasNoText bytes.now) }
+pub fn owned_trace_and_start(
+    alloc: Global,
+    bytes: Vec<u8>,
+) -> Result<(Trace<'static>, Recovered), NoText>
+    ensures read { IfOk result (λ found. IsReadAs bytes.items found.0) }
+    ensures playable { IfOk result (λ found. IsPlayable found.0.head) }
+    ensures starts { IfOk result (λ found. StartsSeen found.0 found.1) }
+    ensures none { IfErr result (HasNoText bytes.items) }
+{
+    let found = trace_and_start(alloc, &bytes)?;
+    Ok((found.0.into_owned(), found.1))
+}
+
+/// The text that is wanted of the trace that the bytes are, of its run on the structure that it names: the turns of its turn
+/// lines are given, and then each worker runs until it is out. The bytes are let go before the run.
+///
+/// # Errors
+/// Those of `trace_and_start`, in the same order.
+pub fn text_of_trace(alloc: Global, bytes: Vec<u8>, wanted: Wanted) -> Result<Vec<u8>, NoText>
+    ensures text { IfOk result (λ text. IsTextOf bytes.items wanted text.items) }
+    ensures none { IfErr result (HasNoText bytes.items) }
 {
     traces_say_headline();
-    let found = trace_and_start(alloc, bytes)?;
-    let Ok(text) = told(alloc, found.1, &found.0, wanted) else {
+    let found = owned_trace_and_start(alloc, bytes)?;
+    let Ok(text) = told(alloc, found.1, found.0, wanted) else {
         return Err(NoText::NoMemory);
     };
     Ok(text)

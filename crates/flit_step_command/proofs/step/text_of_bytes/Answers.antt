@@ -10,4 +10,4 @@ returns-in_err-text-clause-kind c =
 pub returns-in_err-text-clause-none : goal.returns-in_err-text-clause-none
 returns-in_err-text-clause-none c =
     let p = err_from_is_err_and c.from_residual.result c.from_residual.ensures.1 in
-    rw (p.1, p.2) (has_no_report c.args.bytes.now _ c.in_err-text.ensures.none)
+    rw (p.1, p.2) (has_no_report c.args.bytes.items _ c.in_err-text.ensures.none)

@@ -12,9 +12,9 @@ returns-clause-text c =
       content = r.content;
       trace = r.is;
       playable = subst (λ h. IsPlayable h) r.shows.head c.in_ok-found.ensures.playable;
-      is = wanted_text r.content c.args.wanted found.1 text.items (c.in_ok-found.ensures.starts c.args.bytes.now r.content r.is r.shows)
-          (c.in-Ok.ensures c.args.bytes.now r.content r.is r.shows)
-          (λ shows told is. c.traces_say_headline.ensures c.args.bytes.now r.content found.1 shows told r.is
+      is = wanted_text r.content c.args.wanted found.1 text.items (c.in_ok-found.ensures.starts c.args.bytes.items r.content r.is r.shows)
+          (c.in-Ok.ensures c.args.bytes.items r.content r.is r.shows)
+          (λ shows told is. c.traces_say_headline.ensures c.args.bytes.items r.content found.1 shows told r.is
           (subst (λ h. IsPlayable h) r.shows.head c.in_ok-found.ensures.playable)
-          (c.in_ok-found.ensures.starts c.args.bytes.now r.content r.is r.shows) is);
+          (c.in_ok-found.ensures.starts c.args.bytes.items r.content r.is r.shows) is);
     }
