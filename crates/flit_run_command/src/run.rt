@@ -31,23 +31,7 @@ pub struct Ended {
     pub told: Option<Told>,
 }
 
-/// What is wanted of a run of the trace that the bytes are, and what is told of the run.
-fn told_of_bytes<G: Gate + Sync, R: Threads + Wait + Sync>(
-    rt: &R,
-    alloc: Global,
-    bytes: &[u8],
-    wanted: Wanted,
-    gate: &G,
-) -> Result<(Vec<u8>, Told), Status>
-    ensures text { IfOk result (λ a. IsTextWithTold wanted bytes.now a.1 a.0.items) }
-    ensures kind { IfErr result IsOfBytes }
-    ensures none { IfErr result (HasNoReport bytes.now) }
-{
-    let told = text_of_run(rt, alloc, bytes, wanted, gate)?;
-    Ok(told)
-}
-
-/// The same of an input, which isn't kept.
+/// What is wanted of a run of the trace that an input is, which isn't kept, and what is told of the run.
 fn told_of_input<G: Gate + Sync, R: Threads + Wait + Sync>(
     rt: &R,
     alloc: Global,
@@ -59,7 +43,8 @@ fn told_of_input<G: Gate + Sync, R: Threads + Wait + Sync>(
     ensures kind { IfErr result IsOfBytes }
     ensures none { IfErr result (HasNoReport input.items) }
 {
-    told_of_bytes(rt, alloc, &input, wanted, gate)
+    let told = text_of_run(rt, alloc, input, wanted, gate)?;
+    Ok(told)
 }
 
 /// The same of the input that the source has.

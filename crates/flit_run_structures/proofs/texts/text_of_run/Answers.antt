@@ -9,5 +9,5 @@ returns-clause-text g c =
       content = r.content;
       trace = r.is;
       playable = subst (λ h. IsPlayable h) r.shows.head c.in_ok-found.ensures.playable;
-      is = c.in-Ok.ensures c.args.bytes.now r.content r.is r.shows;
+      is = c.in-Ok.ensures c.args.bytes.items r.content r.is r.shows;
     }
