@@ -57,8 +57,7 @@ fn words_of_table(alloc: Global, image: &[u64], slots: u32) -> Result<Vec<u64>, 
     words.push(0)?;
     words.extend_from_slice(image)?;
     words.extend_from_slice(image)?;
-    let counts = vec![in alloc; 0; slots as usize]?;
-    words.extend_from_slice(counts.as_slice())?;
+    words.resize(count.saturating_add(1), 0)?;
     words.push(0)?;
     Ok(words)
 }
