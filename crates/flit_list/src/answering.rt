@@ -21,6 +21,16 @@ impl<P: Placement + Drop> List<P> {
         ensures { op.new ≡ op_taken self.now.layout (P.place self.now.place) self.now.pool op.old
             answer }
     {
+        // Nearly all answers are to a search's loads of links and keys, so these come before the table of phases.
+        if let Phase::Next(load) = &op.at {
+            let word = load.word;
+            self.link_got(op, word, answer);
+            return;
+        }
+        if let Phase::Key(_) = &op.at {
+            self.key_got(op, answer);
+            return;
+        }
         match &mut op.at {
             Phase::Head(load) => {
                 load.take(&op.hand, answer);

@@ -99,6 +99,10 @@ impl<P: Placement + Drop> Structure for List<P> {
 
     #[inline(always)]
     fn ask(&self, op: &ListOp) -> Option<Event> {
+        // Nearly all events are a search's loads, so these come before the table of phases.
+        if let Phase::Head(load) | Phase::Next(load) | Phase::Key(load) = &op.at {
+            return load.ask(&op.hand);
+        }
         match &op.at {
             Phase::Head(load) => load.ask(&op.hand),
             Phase::Next(load) => load.ask(&op.hand),

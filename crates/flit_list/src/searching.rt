@@ -77,8 +77,18 @@ impl<P: Placement + Drop> List<P> {
         } else if wanted < key {
             self.confirms(op, Goal::Absent);
         } else {
+            // Field by field: the next load waits for `raw`, which a copy of the whole would hold up.
+            let LinkWord {
+                word,
+                raw,
+                confirmed,
+            } = op.path.next;
             op.path.back = Some(op.path.pred);
-            op.path.pred = op.path.next;
+            op.path.pred = LinkWord {
+                word,
+                raw,
+                confirmed,
+            };
             self.looks(op);
         }
     }
