@@ -129,32 +129,38 @@ struct Table {
         if (with_next) confirm(hand, path.next);
     }
 
-    // Goes along the list of the key's bucket, and unlinks the removed rows on its way.
+    // Goes along the list of the key's bucket, and unlinks the removed rows on its way. The path is kept in variables of its
+    // own until it is needed, since each row waits for the link before it: a link that goes through memory as a whole costs more
+    // than the load.
     Found search(Hand& hand, uint32_t key, Path& path) {
         const uint32_t first = head(key);
-        path.has_back = false;
-        path.pred = {first, words[first].load(), false};
-        while (const uint32_t row = row_of(path.pred.raw)) {
+        bool has_back = false;
+        Link back{}, pred{first, words[first].load(), false}, next{};
+        while (const uint32_t row = row_of(pred.raw)) {
             const uint64_t link = words[link_word(row)].load();
-            path.next = {link_word(row), link, false};
+            next = {link_word(row), link, false};
             if (is_marked(link)) {
+                path = {has_back, back, pred, next};
                 confirm_path(hand, path, true);
                 uint64_t made;
-                const End end = exchange(hand, path.pred.word, path.pred.raw, 4 * row_of(link), made);
+                const End end = exchange(hand, pred.word, pred.raw, 4 * row_of(link), made);
                 if (end == End::Worn) return Found::Worn;
                 if (end == End::Lost) return search(hand, key, path);
-                path.pred = {path.pred.word, made, true};
+                back = path.back;
+                pred = {pred.word, made, true};
                 continue;
             }
             const uint32_t found = value_of(words[key_word(row)].load());
             if (found >= key) {
+                path = {has_back, back, pred, next};
                 confirm_path(hand, path, found == key);
                 return found == key ? Found::Yes : Found::No;
             }
-            path.has_back = true;
-            path.back = path.pred;
-            path.pred = path.next;
+            has_back = true;
+            back = pred;
+            pred = next;
         }
+        path = {has_back, back, pred, next};
         confirm_path(hand, path, false);
         return Found::No;
     }
