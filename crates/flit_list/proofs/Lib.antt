@@ -1,2 +1,3 @@
+mod AlongRows
 mod Parts
 mod Telling

@@ -9,7 +9,7 @@ use flit_list_steps::{LinkWord, ListOp, Path, Phase};
 use flit_model::{Call, Event, Reply, Tally};
 use flit_place::Placement;
 use flit_pv::{Complete, Exchanging, Hand, PExchange, PrivateStore, VLoad};
-use flit_structure::Structure;
+use flit_structure::{Loader, Structure};
 use flit_words::Layout;
 
 const NO_WORD: LinkWord = LinkWord {
@@ -124,6 +124,23 @@ impl<P: Placement + Drop> Structure for List<P> {
     #[inline(always)]
     fn take(&self, op: &mut ListOp, answer: u64) {
         self.answered(op, answer);
+    }
+
+    #[inline(always)]
+    fn make_loads<L: Loader<ListOp>>(
+        &self,
+        op: &mut ListOp,
+        loader: &L,
+        seat: &mut L::Seat,
+        most: u64,
+    ) -> u64 {
+        if let Phase::Next(load) = &op.at {
+            if load.loaded().is_none() {
+                let word = load.word;
+                return self.goes_along(op, word, loader, seat, most);
+            }
+        }
+        0
     }
 
     fn takes_effect(&self, op: &ListOp) -> bool {

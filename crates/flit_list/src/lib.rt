@@ -6,6 +6,7 @@ mod calls;
 mod confirming;
 mod inserting;
 mod lists;
+mod loading;
 mod searching;
 
 pub use lists::List;
