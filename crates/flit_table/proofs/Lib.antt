@@ -20,6 +20,7 @@ pub mod Making
 pub mod TableSteps
 pub mod StepGoals
 pub mod CallSteps
+pub mod LoadSteps
 pub mod PassLaws
 pub mod JoinGoals
 pub mod OpenGoals

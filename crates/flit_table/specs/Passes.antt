@@ -1,5 +1,6 @@
 -- What a pass is, what its calls ask of it, and how they come out.
 use Rattle.std.specs.Prelude.{◌≡◌, ℕ, ◌+◌, ◌-◌, ◌<◌, ◌≤◌, List, Bool, true, false, Option, Some, None, IsSome}
+use Rattle.atomic_table.specs.declared.shared.Seat.{Seat}
 use Rattle.flit_words.specs.Layouts.{words_of}
 use Rattle.flit_model.specs.declared.calls.Call.{Call}
 use Rattle.flit_model.specs.declared.calls.Reply.{Reply}
@@ -25,7 +26,7 @@ use Rattle.flit_table.specs.Views.{workers_of, posts_of, keeper, heir, both}
 use Rattle.flit_table.specs.Logs.{Continues, shorter_log, longer_log}
 use Rattle.flit_table.specs.Orders.{AreInOrder}
 use Rattle.flit_table.specs.Rule.{first_view}
-use Rattle.flit_table.specs.Calls.{Runs, Ends, IsUnderWayAt, Evicts, IsCut}
+use Rattle.flit_table.specs.Calls.{Runs, Ends, IsUnderWayAt, IsAtCall, Evicts, IsCut}
 
 module _ {Op : Type 0} where
   -- a worker at nothing, with its hand
@@ -215,3 +216,9 @@ module _ {S Op : Type 0} (meanings : S → Meaning Op) (home : Home S) where
   abbrev pub IsEvicted : ℕ → ℕ → View S Op → Pass S Op → Bool → Type 0
   IsEvicted word steps v pass true = (2 ≤ steps) × IsFree pass × Evicts its_meaning home.origin word v (view_of pass)
   IsEvicted word steps v pass false = (steps < 2) × IsStopped pass × (waits_to pass ≡ Go) × IsCut its_meaning home.origin word steps v (view_of pass)
+
+  -- what a loader of the structure's operations knows: the seat belongs here, and the call that began at a view is at this
+  -- operation, after so many events, and waits to begin nothing
+  pub record IsLoadedAt (run : Call × View S Op) (seat : Seat ℕ (View S Op)) (op : Op) (made : ℕ) : Type 0 where
+    pub belongs : Belongs home seat
+    pub at : IsAtCall its_meaning home.origin Go run.0 run.1 seat.me.0 op made

@@ -70,13 +70,17 @@ impl<S: Structure> Running<S> {
             self.now.origin start.new call v seat.new.me.0 op.new (made + result)
             (replied (meaning_of S.meaning self.now) op.new) }
     {
-        for made in 0..steps {
+        let mut made = 0;
+        while made < steps {
             let Some(event) = self.structure.ask(op) else {
                 return made;
             };
             let answer = self.step(seat, start, event);
             self.structure.take(op, answer);
             *start = Start::Go;
+            made += 1;
+            // Only behind an event, since the load that a search starts with may begin its call.
+            made += self.structure.make_loads(op, self, seat, steps - made);
         }
         steps
     }

@@ -74,46 +74,60 @@ impl<S: Structure> Running<S> {
     }
 }
 
-// The shadow, or the word where that is ahead and is taken.
-fn kept_or_taken(takes: bool, word: u64, shadow: u64) -> u64
-    ensures { result ≡ taken_word takes word shadow }
+// The value ahead, or the shadow where the word isn't ahead.
+fn taken_or_kept(word: u64, shadow: u64) -> u64
+    ensures { result ≡ taken_word true word shadow }
 {
     let is_ahead = Word::unpack(word).version == Word::unpack(shadow).version + 1;
-    if takes && is_ahead {
-        bare(word)
-    } else {
-        shadow
-    }
+    if is_ahead { bare(word) } else { shadow }
 }
 
-// The word that an image takes.
-fn image_word(closed: &Closed<u64, Global>, count: u32, word: u32, takes: bool) -> u64
+// What an image has of a word whose value ahead it takes.
+fn image_word(closed: &Closed<u64, Global>, count: u32, word: u32) -> u64
     requires full { IsFull closed.now.words }
     requires long { 2 * count < slots_len closed.now.words }
     requires within { word < count }
-    ensures { result ≡ word_in (slots_items closed.now.words) count takes word }
+    ensures { result ≡ word_in (slots_items closed.now.words) count true word }
 {
     let at = word as usize + 1;
     let now = closed.word(at);
     let shadow = closed.word(count as usize + at);
-    kept_or_taken(takes, now, shadow)
+    taken_or_kept(now, shadow)
 }
 
-// The image that takes all values ahead, or none.
-fn all_or_none(
+// The image that takes no value ahead: the shadows.
+fn image_of_shadows(
     alloc: Global,
     closed: &Closed<u64, Global>,
     count: u32,
-    takes: bool,
 ) -> Result<Vec<u64>, NoMemory>
     requires full { IsFull closed.now.words }
     requires long { 2 * count < slots_len closed.now.words }
-    ensures { IfOk result (λ v. v.items ≡ image_in (λ w. takes) count
+    ensures { IfOk result (λ v. v.items ≡ image_in (λ w. false) count
         (slots_items closed.now.words)) }
 {
     let mut image = Vec::with_capacity(alloc, count as usize)?;
     for word in 0..count {
-        image.push(image_word(closed, count, word, takes))?;
+        let shadow = closed.word(count as usize + (word as usize + 1));
+        image.push_reserved(shadow);
+    }
+    Ok(image)
+}
+
+// The image that takes all values ahead.
+fn image_with_all(
+    alloc: Global,
+    closed: &Closed<u64, Global>,
+    count: u32,
+) -> Result<Vec<u64>, NoMemory>
+    requires full { IsFull closed.now.words }
+    requires long { 2 * count < slots_len closed.now.words }
+    ensures { IfOk result (λ v. v.items ≡ image_in (λ w. true) count
+        (slots_items closed.now.words)) }
+{
+    let mut image = Vec::with_capacity(alloc, count as usize)?;
+    for word in 0..count {
+        image.push_reserved(image_word(closed, count, word));
     }
     Ok(image)
 }
@@ -128,7 +142,7 @@ fn take_ahead(closed: &Closed<u64, Global>, count: u32, image: &mut Vec<u64>, ch
 {
     for word in chosen {
         if *word < count {
-            image[*word as usize] = image_word(closed, count, *word, true);
+            image[*word as usize] = image_word(closed, count, *word);
         }
     }
 }
@@ -146,10 +160,10 @@ fn image_of_table(
         (slots_items closed.now.words)) }
 {
     match ahead {
-        Ahead::None => all_or_none(alloc, closed, count, false),
-        Ahead::All => all_or_none(alloc, closed, count, true),
+        Ahead::None => image_of_shadows(alloc, closed, count),
+        Ahead::All => image_with_all(alloc, closed, count),
         Ahead::Words(chosen) => {
-            let mut image = all_or_none(alloc, closed, count, false)?;
+            let mut image = image_of_shadows(alloc, closed, count)?;
             take_ahead(closed, count, &mut image, chosen.as_slice());
             Ok(image)
         }

@@ -4,6 +4,7 @@
 mod answering;
 mod closing;
 mod evicting;
+mod loading;
 mod log_laws;
 mod opens;
 mod passes;
