@@ -19,4 +19,5 @@ pub mod SentenceCuts
 pub mod SentenceTexts
 pub mod SentenceRefusals
 pub mod PrintedLines
+pub mod SpelledLines
 pub mod CallTraces

@@ -1,7 +1,7 @@
 -- Lines that say nothing: what such a line could say is known from its first byte.
-use Rattle.std.proofs.Common.{◌≡◌, ◌≢◌, ℕ, ◌^◌, ◌<◌, ◌≤◌, ◌==◌, Bool, true, false, List, ◌∷◌, ◌++◌, get_or, drop, codes, decimal, sym, ap, ◌∙◌, refl, arith, subst, if◌then◌else◌, le-ltb}
+use Rattle.std.proofs.Common.{◌≡◌, ◌≢◌, ℕ, ◌^◌, ◌<◌, ◌≤◌, ◌==◌, Bool, true, false, List, [], ◌∷◌, ◌++◌, length, get_or, drop, codes, decimal, sym, ap, ◌∙◌, refl, arith, subst, if◌then◌else◌, le-ltb}
 use Rattle.std.proofs.Common.{Contains as Has}
-use Rattle.std.specs.Prelude.{Some, None, IfNone}
+use Rattle.std.specs.Prelude.{Option, Some, None, IfNone}
 use Rattle.std.specs.Bool.{then_some}
 use Rattle.flit_words.specs.declared.layouts.Kind.{Kind}
 use Rattle.flit_words.specs.declared.layouts.Kind.TheVariants.{List as List_kind, Hash, Tree}
@@ -188,6 +188,100 @@ no_call line digits rest low cut apart none s said =
     let w = worker_line_of line s low said in
     let same : rest ≡ w.call = (cut_once 32 digits (decimal w.worker) rest w.call apart (no_space w.worker w.small) (sym cut ∙ w.is)).1 in
     none_called rest none (subst IsCall (sym same) w.told)
+
+-- what a call can't say whose first byte is known
+pub record NoCallAt (call : List ℕ) (b : ℕ) : Type 0 where
+  pub both : b ≡ 105 → NoPair call (codes "insert ")
+  pub insert : b ≡ 105 → NoNumber call (codes "insert ")
+  pub remove : b ≡ 114 → NoNumber call (codes "remove ")
+  pub contains_key : b ≡ 99 → NoNumber call (codes "contains ")
+  pub get : b ≡ 103 → NoNumber call (codes "get ")
+  pub evict : b ≡ 101 → NoNumber call (codes "evict ")
+
+pub none_at : (call : List ℕ) → NoCallAt call (get_or call 0 0) → NoCall call
+none_at call none = record {
+  both = λ m n small low is. none.both (ap (λ s. get_or s 0 0) is) m n small low is;
+  insert = λ n small is. none.insert (ap (λ s. get_or s 0 0) is) n small is;
+  remove = λ n small is. none.remove (ap (λ s. get_or s 0 0) is) n small is;
+  contains_key = λ n small is. none.contains_key (ap (λ s. get_or s 0 0) is) n small is;
+  get = λ n small is. none.get (ap (λ s. get_or s 0 0) is) n small is;
+  evict = λ n small is. none.evict (ap (λ s. get_or s 0 0) is) n small is;
+}
+
+pub no_call_at : (line digits rest : List ℕ) (b : ℕ) → get_or line 0 0 < 97 → line ≡ digits ++ 32 ∷ rest → ¬ Has digits 32 →
+    get_or rest 0 0 ≡ b → NoCallAt rest b → (s : Sentence) → ¬ Says line s
+no_call_at line digits rest b low cut apart first none =
+    no_call line digits rest low cut apart (none_at rest (subst (NoCallAt rest) (sym first) none))
+
+-- what is left where the call begins with one of these letters
+pub only_i : (call : List ℕ) → NoNumber call (codes "insert ") → NoPair call (codes "insert ") → NoCallAt call 105
+only_i call one two = record {
+  both = λ e. two;
+  insert = λ e. one;
+  remove = λ e. absurd (omega (arith, e));
+  contains_key = λ e. absurd (omega (arith, e));
+  get = λ e. absurd (omega (arith, e));
+  evict = λ e. absurd (omega (arith, e));
+}
+
+pub only_r : (call : List ℕ) → NoNumber call (codes "remove ") → NoCallAt call 114
+only_r call none = record {
+  both = λ e. absurd (omega (arith, e));
+  insert = λ e. absurd (omega (arith, e));
+  remove = λ e. none;
+  contains_key = λ e. absurd (omega (arith, e));
+  get = λ e. absurd (omega (arith, e));
+  evict = λ e. absurd (omega (arith, e));
+}
+
+pub only_c : (call : List ℕ) → NoNumber call (codes "contains ") → NoCallAt call 99
+only_c call none = record {
+  both = λ e. absurd (omega (arith, e));
+  insert = λ e. absurd (omega (arith, e));
+  remove = λ e. absurd (omega (arith, e));
+  contains_key = λ e. none;
+  get = λ e. absurd (omega (arith, e));
+  evict = λ e. absurd (omega (arith, e));
+}
+
+pub only_g : (call : List ℕ) → NoNumber call (codes "get ") → NoCallAt call 103
+only_g call none = record {
+  both = λ e. absurd (omega (arith, e));
+  insert = λ e. absurd (omega (arith, e));
+  remove = λ e. absurd (omega (arith, e));
+  contains_key = λ e. absurd (omega (arith, e));
+  get = λ e. none;
+  evict = λ e. absurd (omega (arith, e));
+}
+
+pub only_e : (call : List ℕ) → NoNumber call (codes "evict ") → NoCallAt call 101
+only_e call none = record {
+  both = λ e. absurd (omega (arith, e));
+  insert = λ e. absurd (omega (arith, e));
+  remove = λ e. absurd (omega (arith, e));
+  contains_key = λ e. absurd (omega (arith, e));
+  get = λ e. absurd (omega (arith, e));
+  evict = λ e. none;
+}
+
+-- and where it is empty
+pub first_of_none : (call : List ℕ) → length call ≤ 0 → get_or call 0 0 ≡ 0
+first_of_none [] short = refl
+first_of_none (b ∷ bs) short = absurd (omega arith)
+
+pub only_none : (call : List ℕ) → NoCallAt call 0
+only_none call = record {
+  both = λ e. absurd (omega (arith, e));
+  insert = λ e. absurd (omega (arith, e));
+  remove = λ e. absurd (omega (arith, e));
+  contains_key = λ e. absurd (omega (arith, e));
+  get = λ e. absurd (omega (arith, e));
+  evict = λ e. absurd (omega (arith, e));
+}
+
+pub both_none : {P Q R : Type 0} (r : Option Sentence) → (P → Q → R) → IfNone r P → IfNone r Q → IfNone r R
+both_none None f p q = f p q
+both_none (Some s) f p q = tt
 
 -- a byte with which no sentence begins
 pub record IsOtherLetter (b : ℕ) : Type 0 where

@@ -1,10 +1,12 @@
 ghost use Rattle.std.specs.Prelude.{◌≡◌, ◌≤◌, length, IfOk, IfErr, OnOk};
+ghost use Rattle.std.specs.Str.{IsAscii};
 ghost use Rattle.flit_words.specs.Texts.{lines_of};
 ghost use Rattle.flit_words.specs.declared.limits.TheConstants.{MOST_WORKERS};
 ghost use Rattle.flit_trace.specs.Contents.{Contents};
 ghost use Rattle.flit_trace.specs.Drafts.{IsSound};
 ghost use Rattle.flit_trace.specs.Grammar.{is_silent, IsErrorOf};
 ghost use Rattle.flit_trace.specs.SeenTraces.{IsReadAs};
+ghost use Rattle.flit_trace.specs.declared.faults.TraceError.TheVariants.{BadLine};
 ghost use Rattle.flit_trace.specs.Readings.{LeadsTo, IsLineError, AreRead, AreFaulty};
 
 use crate::drafts::Draft;
@@ -25,6 +27,18 @@ fn says_nothing(line: &[u8]) -> bool
     }
 }
 
+/// Takes a line that says nothing.
+fn silent_line(number: u32, line: &[u8]) -> Result<(), TraceError>
+    ensures ok { OnOk result (IsAscii line.now) }
+    ensures err { IfErr result (λ e. (e ≡ BadLine number) × ¬ IsAscii line.now) }
+{
+    if line.is_ascii() {
+        Ok(())
+    } else {
+        Err(TraceError::BadLine { line: number })
+    }
+}
+
 /// Takes the line of this number.
 fn take_line(
     draft: &mut Draft,
@@ -40,11 +54,12 @@ fn take_line(
         LeadsTo number draft.old index.old t line.now draft.new index.new) }
     ensures err { IfErr result (IsLineError number draft.old line.now) }
 {
-    if !line.is_ascii() || draft.stage.is_ended() {
+    if draft.stage.is_ended() {
         return Err(TraceError::BadLine { line: number });
     }
+    // A line that says something is spelled in ASCII.
     if says_nothing(line) {
-        return Ok(());
+        return silent_line(number, line);
     }
     let Some(sentence) = sentence_of(line) else {
         return Err(TraceError::BadLine { line: number });

@@ -1,4 +1,4 @@
-ghost use Rattle.std.specs.Prelude.{◌≡◌, ◌≢◌, ℕ, ◌^◌, ◌<◌, List, ◌++◌, slice_index, IfSome, IfNone};
+ghost use Rattle.std.specs.Prelude.{◌≡◌, ◌≢◌, ℕ, ◌^◌, ◌<◌, List, ◌∷◌, ◌++◌, codes, slice_index, IfSome, IfNone};
 ghost use Rattle.std.specs.Fmt.{decimal};
 ghost use Rattle.flit_trace.specs.Sentences.{two_numbers, Says};
 ghost use Rattle.flit_words.specs.declared.layouts.Kind.{Kind};
@@ -233,6 +233,31 @@ fn begun_by_w(line: &[u8]) -> Option<Sentence>
     Some(Sentence::Workers { workers })
 }
 
+/// What a line of a worker says with this call behind its number, which begins with `insert `.
+fn insert_of(worker: u64, call: &[u8]) -> Option<Sentence>
+    requires { worker < 10 ^ 10 }
+    ensures some { IfSome result (λ s. (line : List ℕ) →
+        line ≡ decimal worker ++ 32 ∷ call.now → Says line s) }
+    ensures one { IfNone result ((n : ℕ) → n < 10 ^ 10 →
+        call.now ≢ codes "insert " ++ decimal n) }
+    ensures two { IfNone result ((m n : ℕ) → m < 10 ^ 10 → n < 10 ^ 10 →
+        call.now ≢ codes "insert " ++ two_numbers m n) }
+{
+    if let Some(key) = number_behind(call, b"insert ") {
+        return Some(Sentence::Insert {
+            worker,
+            key,
+            value: None,
+        });
+    }
+    let (key, value) = two_numbers_behind(call, b"insert ")?;
+    Some(Sentence::Insert {
+        worker,
+        key,
+        value: Some(value),
+    })
+}
+
 /// What a line says that has no letter in front.
 fn begun_by_number(line: &[u8]) -> Option<Sentence>
     requires { slice_index line.now 0 < 97 }
@@ -241,31 +266,26 @@ fn begun_by_number(line: &[u8]) -> Option<Sentence>
 {
     let (digits, call) = cut_at(line, b' ')?;
     let worker = number_of(digits)?;
-    if let Some((key, value)) = two_numbers_behind(call, b"insert ") {
-        return Some(Sentence::Insert {
-            worker,
-            key,
-            value: Some(value),
-        });
+    match *call.first()? {
+        b'i' => insert_of(worker, call),
+        b'r' => {
+            let key = number_behind(call, b"remove ")?;
+            Some(Sentence::Remove { worker, key })
+        }
+        b'c' => {
+            let key = number_behind(call, b"contains ")?;
+            Some(Sentence::Contains { worker, key })
+        }
+        b'g' => {
+            let key = number_behind(call, b"get ")?;
+            Some(Sentence::Get { worker, key })
+        }
+        b'e' => {
+            let word = number_behind(call, b"evict ")?;
+            Some(Sentence::Evict { worker, word })
+        }
+        _ => None,
     }
-    if let Some(key) = number_behind(call, b"insert ") {
-        return Some(Sentence::Insert {
-            worker,
-            key,
-            value: None,
-        });
-    }
-    if let Some(key) = number_behind(call, b"remove ") {
-        return Some(Sentence::Remove { worker, key });
-    }
-    if let Some(key) = number_behind(call, b"contains ") {
-        return Some(Sentence::Contains { worker, key });
-    }
-    if let Some(key) = number_behind(call, b"get ") {
-        return Some(Sentence::Get { worker, key });
-    }
-    let word = number_behind(call, b"evict ")?;
-    Some(Sentence::Evict { worker, word })
 }
 
 /// What a line says. None comes where it says nothing.

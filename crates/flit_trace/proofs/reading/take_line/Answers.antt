@@ -4,14 +4,15 @@ use Rattle.flit_trace.specs.Contents.{told_with}
 use Rattle.flit_trace.proofs.Soundness.{goes-sound}
 use Rattle.flit_trace.proofs.Numbers.{goes-numbers}
 use Rattle.flit_trace.proofs.LineErrors.{verdict_error}
+use Rattle.flit_trace.proofs.SpelledLines.{says-ascii}
 use Rattle.flit_trace.proofs.reading.take_line.Goals as goal
 
 pub returns-in_err-take-clause-err : goal.returns-in_err-take-clause-err
 returns-in_err-take-clause-err c =
     let p = err_from_is_err_and c.from_residual.result c.from_residual.ensures.1 in
     rw (p.1, p.2) (verdict_error c.args.number c.args.draft.now c.args.line.now c.in-Some.sentence _
-    (record { ascii = c.if-not-is_ascii.ensures.cases; open_yet = sym c.if-is_ended.ensures }) (sym c.if-says_nothing.ensures) c.in-Some.ensures.some
-    c.in_err-take.ensures.err)
+    (record { ascii = says-ascii c.args.line.now c.in-Some.sentence c.in-Some.ensures.some; open_yet = sym c.if-is_ended.ensures })
+    (sym c.if-says_nothing.ensures) c.in-Some.ensures.some c.in_err-take.ensures.err)
 
 pub tell-requires : goal.tell-requires
 tell-requires c = record {
@@ -28,7 +29,7 @@ returns-clause-leads c = λ t keeps. (
   told_with c.args.draft.now.layout c.args.number c.in-Some.sentence t,
   c.in_ok-tell.ensures.tells t keeps,
   (
-    record { ascii = c.if-not-is_ascii.ensures.cases; open_yet = sym c.if-is_ended.ensures },
+    record { ascii = says-ascii c.args.line.now c.in-Some.sentence c.in-Some.ensures.some; open_yet = sym c.if-is_ended.ensures },
     inr (record {
       speaks = sym c.if-says_nothing.ensures;
       sentence = c.in-Some.sentence;
