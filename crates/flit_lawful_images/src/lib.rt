@@ -3,4 +3,4 @@
 
 mod recovering;
 
-pub use recovering::{recover_lawful, recover_lawful_owned};
+pub use recovering::{count_lawful_keys, recover_lawful, recover_lawful_owned};

@@ -1,10 +1,10 @@
 ghost use Rattle.std.specs.Prelude.{◌≡◌, ◌≢◌, IfOk};
 ghost use Rattle.flit_model.specs.Maps.{Map};
 ghost use Rattle.flit_model.specs.Recovery.{IsRecovery, IsWhole, layout_of};
-ghost use Rattle.flit_lawful_images.specs.Maps.{IsMapOf, HasPairsOf};
+ghost use Rattle.flit_lawful_images.specs.Maps.{IsMapOf, HasPairsOf, HasSoManyKeys};
 
 use flit_model::Image;
-use flit_recover::{Damage, Recovered, recover, recover_owned};
+use flit_recover::{Damage, Recovered, count_keys, recover, recover_owned};
 use flit_words::NoMemory;
 use std::alloc::Global;
 
@@ -45,6 +45,19 @@ pub fn recover_lawful_owned(alloc: Global, image: Image) -> Result<Recovered, No
 {
     match recover_owned(alloc, image) {
         Ok(recovered) => Ok(recovered),
+        Err(damage) => Err(memory_alone(damage)),
+    }
+}
+
+/// How many keys the map of an image has that is lawful: as many as `recover_lawful` answers, without putting them in order.
+/// The error is NoMemory alone.
+pub fn count_lawful_keys(alloc: Global, image: &Image) -> Result<usize, NoMemory>
+    requires whole { IsWhole image.now }
+    requires lawful { (m : Map) × IsMapOf image.now m }
+    ensures { IfOk result (HasSoManyKeys image.now) }
+{
+    match count_keys(alloc, image) {
+        Ok(count) => Ok(count),
         Err(damage) => Err(memory_alone(damage)),
     }
 }

@@ -12,3 +12,4 @@ pub mod FirstDamages
 pub mod TreeRecoveries
 pub mod TreeDamages
 pub mod TreeOrDamage
+pub mod KeyNumbers

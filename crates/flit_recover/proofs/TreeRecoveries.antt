@@ -34,7 +34,7 @@ start_below rows row from =
 
 module _ (l : Layout) (image : List ℕ) (kind : l.kind ≡ Tree_kind) (rows : List ℕ) (pairs : List (ℕ × ℕ)) (h : IsTreeReached l image rows pairs) where
   -- the pairs are the entries of the map
-  tree_entries : finite.entries (tree_map l image h.tree) ≡ pairs
+  pub tree_entries : finite.entries (tree_map l image h.tree) ≡ pairs
   tree_entries = entries_of_rising 0 (tree_pairs l image 4 h.tree) pairs
       (subst (IsPermutation (tree_pairs l image 4 h.tree)) (sym h.pairs_are) (IsPermutation-refl (tree_pairs l image 4 h.tree)))
       (subst (λ (ps : List (ℕ × ℕ)). IsRisingFrom 0 (map (λ p. p.0) ps)) (sym h.pairs_are) (tree_pairs_rise l image h.tree h.lawful))

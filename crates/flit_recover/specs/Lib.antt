@@ -5,3 +5,4 @@ pub mod Damages
 pub mod Marks
 pub mod Copies
 pub mod AboutDamages
+pub mod KeyCounts

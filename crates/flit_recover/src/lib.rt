@@ -1,6 +1,7 @@
 //! Recovery: from the words that a crash left alone, the keys and values of the map and the rows that are free.
 #![tactic(auto)]
 
+mod counting;
 mod found;
 mod laws;
 mod list_walk;
@@ -11,6 +12,7 @@ mod recovery;
 mod tests;
 mod tree_walk;
 
+pub use counting::count_keys;
 pub use flit_model::Recovered;
 pub use found::Damage;
 pub use laws::{one_damage_of_lists, one_damage_of_trees};

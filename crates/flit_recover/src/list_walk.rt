@@ -176,7 +176,7 @@ pub(crate) fn row_value_at(layout: &Layout, words: &[u64], row: u32) -> u32
 }
 
 /// Whether the row's own link is marked.
-fn is_being_removed(layout: &Layout, words: &[u64], row: u32) -> bool
+pub(crate) fn is_being_removed(layout: &Layout, words: &[u64], row: u32) -> bool
     requires accepted { Accepted layout.now }
     requires whole { length words.now ≡ words_of layout.now }
     requires above { 1 ≤ row }

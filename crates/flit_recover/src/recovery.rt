@@ -21,7 +21,7 @@ use flit_words::{Kind, Layout, NoMemory, Word};
 use std::alloc::{AllocError, Global};
 
 /// Looks for the first word with a tag.
-fn check_tags(layout: &Layout, words: &[u64]) -> Result<(), Damage>
+pub(crate) fn check_tags(layout: &Layout, words: &[u64]) -> Result<(), Damage>
     requires accepted { Accepted layout.now }
     requires whole { length words.now ≡ words_of layout.now }
     ensures untagged { OnOk result ((w : ℕ) → w < words_of layout.now →
@@ -206,7 +206,7 @@ fn initial_words(alloc: Global, layout: &Layout) -> Result<Vec<u64>, AllocError>
 {
     let mut words = Vec::with_capacity(alloc, layout.words() as usize)?;
     for word in 0..layout.words() {
-        words.push(u64::from(layout.initial(word)))?;
+        words.push_reserved(u64::from(layout.initial(word)));
     }
     Ok(words)
 }
@@ -218,7 +218,7 @@ fn all_rows(alloc: Global, layout: &Layout) -> Result<Vec<u32>, AllocError>
 {
     let mut rows = Vec::with_capacity(alloc, layout.rows as usize)?;
     for row in layout.first_row()..layout.last_row() + 1 {
-        rows.push(row)?;
+        rows.push_reserved(row);
     }
     Ok(rows)
 }
