@@ -1,5 +1,6 @@
 -- The report that a summary of `run` counts, which nobody makes: that of the run, with the lines of all calls.
 use Rattle.std.proofs.Common.{◌≡◌, ℕ, true, List, [], map, flat_map, length, refl, Vec}
+use Rattle.std.specs.FinMap as map_of_pairs
 use Rattle.std.specs.Global.{Global}
 use Rattle.std.specs.List.{AllByRecursion}
 use Rattle.flit_model.specs.Maps.{Map}
@@ -7,7 +8,7 @@ use Rattle.flit_model.specs.Recovery.{IsRecovery, layout_of}
 use Rattle.flit_model.specs.declared.calls.Outcome.{Outcome}
 use Rattle.flit_model.specs.declared.found.Image.{Image}
 use Rattle.flit_model.specs.declared.found.Recovered.{Recovered}
-use Rattle.flit_lawful_images.specs.Maps.{IsMapOf, HasPairsOf}
+use Rattle.flit_lawful_images.specs.Maps.{IsMapOf}
 use Rattle.flit_report.specs.Content.{Content as Report, text_of}
 use Rattle.flit_trace.specs.Contents.{Content}
 use Rattle.flit_trace.specs.Rights.{IsRightLine}
@@ -23,7 +24,7 @@ use Rattle.flit_run_runs.proofs.CountedOutcomes.{counts_told}
 use Rattle.flit_run_runs.proofs.ToldCalls.{told_calls, tells}
 use Rattle.flit_run_runs.proofs.ToldReports.{image_told, report_told}
 
-module _ (t : Content) (xs : List (Vec Outcome Global)) (found : Recovered) where
+module _ (t : Content) (xs : List (Vec Outcome Global)) (keys values free : List ℕ) where
   report_of : Report
   report_of = record {
     summary = true;
@@ -32,19 +33,19 @@ module _ (t : Content) (xs : List (Vec Outcome Global)) (found : Recovered) wher
     lines = told_calls (outcomes_at (map (λ os. os.items) xs)) t.items;
     history = [];
     tallies = [];
-    keys = found.keys.items;
-    values = found.values.items;
-    free = length found.free.items;
+    keys = keys;
+    values = values;
+    free = length free;
   }
 
-  pub is_summary : (start : Recovered) (k : Known) (image : Image) (counts : Counts) (keys : ℕ) (text : List ℕ) →
+  pub is_summary : (start : Recovered) (k : Known) (image : Image) (counts : Counts) (count : ℕ) (text : List ℕ) →
       TellsTrace t start k (map (λ os. os.items) xs) → AllByRecursion (IsRightLine t.head.layout) t.items → k.image ≡ image →
-      IsRecovery (layout_of image) image.words.items found.keys.items found.values.items found.free.items →
-      ((m : Map) → IsMapOf image m → HasPairsOf m found) → CountsOutcomes counts (flat_map (λ os. os.items) xs) → keys ≡ length found.keys.items →
-      ((told : Report) → told.summary ≡ true → AreCountsOf counts told.lines → keys ≡ length told.keys → text ≡ text_of told) →
+      IsRecovery (layout_of image) image.words.items keys values free →
+      ((m : Map) → IsMapOf image m → (keys ≡ map_of_pairs.keys m) × (values ≡ map_of_pairs.values m)) → CountsOutcomes counts (flat_map (λ os. os.items) xs) → count ≡ length keys →
+      ((told : Report) → told.summary ≡ true → AreCountsOf counts told.lines → count ≡ length told.keys → text ≡ text_of told) →
       IsRunSummaryOf t start k text
   unfolding report_of
-  is_summary start k image counts keys text of_trace right same recovery pairs counted long says =
+  is_summary start k image counts count text of_trace right same recovery pairs counted long says =
       let all = map (λ os. os.items) xs in
       let lines = told_calls (outcomes_at all) t.items in
       let calls = tells t all in
@@ -55,11 +56,11 @@ module _ (t : Content) (xs : List (Vec Outcome Global)) (found : Recovered) wher
         history = refl;
         tallies = refl;
         recovery = record {
-          free = found.free.items;
-          recovery = same_shape_recovery (layout_of image) t.head.layout image.words.items found.keys.items found.values.items found.free.items shape recovery;
+          free = free;
+          recovery = same_shape_recovery (layout_of image) t.head.layout image.words.items keys values free shape recovery;
           free_is = refl;
         };
-        pairs = λ m is. let p = pairs m is in (p.keys, p.values);
+        pairs = pairs;
       } in
       record {
         report = report_of;

@@ -7,7 +7,7 @@ ghost use Rattle.flit_run_runs.specs.Summaries.{IsRunSummaryOf};
 
 use crate::counting::counts_of_outcomes;
 use crate::running::run_trace;
-use flit_lawful_images::recover_lawful_owned;
+use flit_lawful_images::count_lawful_keys;
 use flit_model::Recovered;
 use flit_step_runs::summary_of;
 use flit_structure::Structure;
@@ -48,7 +48,7 @@ pub fn summary_of_threads<
     } = ran;
     let counts = counts_of_outcomes(outcomes.as_slice());
     drop(outcomes);
-    let found = recover_lawful_owned(alloc, image)?;
-    let text = summary_of(alloc, counts, found.keys.len())?;
+    let keys = count_lawful_keys(alloc, &image)?;
+    let text = summary_of(alloc, counts, keys)?;
     Ok((text, told))
 }

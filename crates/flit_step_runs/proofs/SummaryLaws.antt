@@ -22,7 +22,7 @@ use Rattle.flit_step_runs.specs.declared.counting.Counts.{Counts}
 use Rattle.flit_step_runs.proofs.ReportLaws.{is_report}
 use Rattle.flit_step_runs.proofs.TellingLaws.{picks_seen, found_in}
 
-module _ {Op : Type 0} (meaning : Meaning Op) (final : Run Op) (after : List Shown) (t : Content) (found : Recovered) where
+module _ {Op : Type 0} (meaning : Meaning Op) (final : Run Op) (after : List Shown) (t : Content) (keys values free : List ℕ) where
   told_of : Told
   told_of = record {
     summary = true;
@@ -31,20 +31,20 @@ module _ {Op : Type 0} (meaning : Meaning Op) (final : Run Op) (after : List Sho
     lines = told_lines final [] t.items;
     history = history_with final (picks_in t);
     tallies = map (λ p. tally_in meaning p.worker.doing) final.parts;
-    keys = found.keys.items;
-    values = found.values.items;
-    free = length found.free.items;
+    keys = keys;
+    values = values;
+    free = length free;
   }
 
-  pub is_summary : (plans : PlansAreRuns meaning) (start : Recovered) (trace : SeenTrace) (a : Ahead) (image : Image) (counts : Counts) (keys : ℕ) (text : List ℕ) →
+  pub is_summary : (plans : PlansAreRuns meaning) (start : Recovered) (trace : SeenTrace) (a : Ahead) (image : Image) (counts : Counts) (count : ℕ) (text : List ℕ) →
       Shows trace t → CanPlay meaning start t → IsPlayed meaning t start false final [] after → Names a trace.all_ahead trace.ahead →
       IsImageOf meaning.layout image → image.words.items ≡ crash_image (picks_of a) final.state →
-      IsRecovery (layout_of image) image.words.items found.keys.items found.values.items found.free.items →
-      AreCountsOf counts (told_lines final [] t.items) → keys ≡ length found.keys.items →
-      ((told : Told) → told.summary ≡ true → AreCountsOf counts told.lines → keys ≡ length told.keys → text ≡ text_of told) →
+      IsRecovery (layout_of image) image.words.items keys values free →
+      AreCountsOf counts (told_lines final [] t.items) → count ≡ length keys →
+      ((told : Told) → told.summary ≡ true → AreCountsOf counts told.lines → count ≡ length told.keys → text ≡ text_of told) →
       IsSummaryOf meaning t start text
   unfolding told_of
-  is_summary plans start trace a image counts keys text shows can played names shape words recovery counted long says =
+  is_summary plans start trace a image counts count text shows can played names shape words recovery counted long says =
       let picks = picks_seen a trace t names shows in
       record {
         told = told_of;
@@ -53,9 +53,9 @@ module _ {Op : Type 0} (meaning : Meaning Op) (final : Run Op) (after : List Sho
           history = refl;
           tallies = refl;
           recovered = record {
-            free = found.free.items;
-            recovery = subst (λ f. IsRecovery t.head.layout (crash_image f final.state) found.keys.items found.values.items found.free.items) picks
-                (found_in meaning t.head.layout image (picks_of a) final found.keys.items found.values.items found.free.items can.shape shape words recovery);
+            free = free;
+            recovery = subst (λ f. IsRecovery t.head.layout (crash_image f final.state) keys values free) picks
+                (found_in meaning t.head.layout image (picks_of a) final keys values free can.shape shape words recovery);
             free_is = refl;
           };
         });

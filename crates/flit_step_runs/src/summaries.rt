@@ -9,7 +9,7 @@ ghost use Rattle.flit_step_runs.specs.Plays.{CanPlay, CanPlaySeen};
 use crate::counting::{Counts, counts_of};
 use crate::opened::run_of_works;
 use crate::works::works_of;
-use flit_lawful_images::recover_lawful_owned;
+use flit_lawful_images::count_lawful_keys;
 use flit_recover::Recovered;
 use flit_step_reports::plans_are_runs;
 use flit_structure::Structure;
@@ -73,7 +73,7 @@ pub fn summary_of_run<S: Structure>(
     let sched = run_of_works(alloc, structure, start, works, &trace, &mut events)?;
     let counts = counts_of(&sched, &trace);
     let image = sched.into_image(alloc, trace.ahead())?;
-    let found = recover_lawful_owned(alloc, image)?;
-    let text = summary_of(alloc, counts, found.keys.len())?;
+    let keys = count_lawful_keys(alloc, &image)?;
+    let text = summary_of(alloc, counts, keys)?;
     Ok(text)
 }

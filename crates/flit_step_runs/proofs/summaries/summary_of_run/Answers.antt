@@ -1,5 +1,4 @@
-use Rattle.std.proofs.Common.{◌≡◌, ◌∙◌, List, false, length, subst, vec_len, arith}
-use Rattle.std.proofs.lemmas.Grind.{common_steps}
+use Rattle.std.proofs.Common.{List, false, subst}
 use Rattle.flit_model.specs.Recovery.{IsImageOf}
 use Rattle.flit_report.specs.declared.content.Shown.{Shown}
 use Rattle.flit_step_runs.specs.Plays.{IsPlayed}
@@ -25,27 +24,29 @@ counts_of-counts-requires g c =
           c.run_of_works.new.events.shown.items (c.in_ok-sched.ensures.played t (c.in_ok-works.ensures t c.requires.1) turns c.requires.2),
     )
 
-pub recover_lawful_owned-requires-clause-whole : goal.recover_lawful_owned-requires-clause-whole
-recover_lawful_owned-requires-clause-whole g c =
+pub count_lawful_keys-requires-clause-whole : goal.count_lawful_keys-requires-clause-whole
+count_lawful_keys-requires-clause-whole g c =
     let meaning = g.S.Structure.meaning c.args.structure in
     let r = c.in_ok-sched.sched.run in
     let after = c.run_of_works.new.events.shown.items in
     let seen = run_seen meaning (c.plans_are_runs.ensures c.args.structure) c.args.start r false after c.args.trace c.requires
     (λ t shows can. subst (λ (b : List Shown). IsPlayed meaning t c.args.start false r b after) c.new.ensures.items
     (c.in_ok-sched.ensures.played t (c.in_ok-works.ensures t shows) (turns_left c.args.trace c.in_ok-trace.trace t c.in_ok-trace.ensures shows) can)) in
-    (whole_lawful meaning c.args.trace r c.ahead.result.now c.in_ok-image.image seen (names_left c.args.trace c.in_ok-trace.trace c.ahead.result.now c.in_ok-trace.ensures c.ahead.ensures)
+    let named = names_left c.args.trace c.in_ok-trace.trace c.ahead.result.now c.in_ok-trace.ensures c.ahead.ensures in
+    (whole_lawful meaning c.args.trace r c.ahead.result.now c.in_ok-image.image seen named
     (subst (λ s. IsImageOf (g.S.Structure.meaning s).layout c.in_ok-image.image) c.in_ok-sched.ensures.structure c.in_ok-image.ensures.shape)
     c.in_ok-image.ensures.words).0
 
-pub recover_lawful_owned-requires-clause-lawful : goal.recover_lawful_owned-requires-clause-lawful
-recover_lawful_owned-requires-clause-lawful g c =
+pub count_lawful_keys-requires-clause-lawful : goal.count_lawful_keys-requires-clause-lawful
+count_lawful_keys-requires-clause-lawful g c =
     let meaning = g.S.Structure.meaning c.args.structure in
     let r = c.in_ok-sched.sched.run in
     let after = c.run_of_works.new.events.shown.items in
     let seen = run_seen meaning (c.plans_are_runs.ensures c.args.structure) c.args.start r false after c.args.trace c.requires
     (λ t shows can. subst (λ (b : List Shown). IsPlayed meaning t c.args.start false r b after) c.new.ensures.items
     (c.in_ok-sched.ensures.played t (c.in_ok-works.ensures t shows) (turns_left c.args.trace c.in_ok-trace.trace t c.in_ok-trace.ensures shows) can)) in
-    (whole_lawful meaning c.args.trace r c.ahead.result.now c.in_ok-image.image seen (names_left c.args.trace c.in_ok-trace.trace c.ahead.result.now c.in_ok-trace.ensures c.ahead.ensures)
+    let named = names_left c.args.trace c.in_ok-trace.trace c.ahead.result.now c.in_ok-trace.ensures c.ahead.ensures in
+    (whole_lawful meaning c.args.trace r c.ahead.result.now c.in_ok-image.image seen named
     (subst (λ s. IsImageOf (g.S.Structure.meaning s).layout c.in_ok-image.image) c.in_ok-sched.ensures.structure c.in_ok-image.ensures.shape)
     c.in_ok-image.ensures.words).1
 
@@ -54,11 +55,13 @@ returns g c = λ t shows can.
     let meaning = g.S.Structure.meaning c.args.structure in
     let r = c.in_ok-sched.sched.run in
     let after = c.run_of_works.new.events.shown.items in
-    let played = subst (λ (b : List Shown). IsPlayed meaning t c.args.start false r b after) c.new.ensures.items (c.in_ok-sched.ensures.played t (c.in_ok-works.ensures t shows) (turns_left c.args.trace c.in_ok-trace.trace t c.in_ok-trace.ensures shows) can) in
-    let keys : vec_len c.in_ok-found.found.keys ≡ length c.in_ok-found.found.keys.items = grind (arith, common_steps) in
-    is_summary meaning r after t c.in_ok-found.found (c.plans_are_runs.ensures c.args.structure) c.args.start c.args.trace c.ahead.result.now
-    c.in_ok-image.image c.counts_of-counts.result c.len.result c.in_ok-text.text.items shows can played (names_left c.args.trace c.in_ok-trace.trace c.ahead.result.now c.in_ok-trace.ensures c.ahead.ensures)
+    let turns = turns_left c.args.trace c.in_ok-trace.trace t c.in_ok-trace.ensures shows in
+    let ran = c.in_ok-sched.ensures.played t (c.in_ok-works.ensures t shows) turns can in
+    let played = subst (λ (b : List Shown). IsPlayed meaning t c.args.start false r b after) c.new.ensures.items ran in
+    let has = c.in_ok-keys.ensures in
+    is_summary meaning r after t has.keys has.values has.free (c.plans_are_runs.ensures c.args.structure) c.args.start c.args.trace c.ahead.result.now
+    c.in_ok-image.image c.counts_of-counts.result c.in_ok-keys.keys c.in_ok-text.text.items shows can played
+    (names_left c.args.trace c.in_ok-trace.trace c.ahead.result.now c.in_ok-trace.ensures c.ahead.ensures)
     (subst (λ s. IsImageOf (g.S.Structure.meaning s).layout c.in_ok-image.image) c.in_ok-sched.ensures.structure c.in_ok-image.ensures.shape)
-    c.in_ok-image.ensures.words c.in_ok-found.ensures.recovery (c.counts_of-counts.ensures t (turns_left c.args.trace c.in_ok-trace.trace t c.in_ok-trace.ensures shows)
-    (holds_items meaning t c.args.start false r c.new.result.items after
-    (c.in_ok-sched.ensures.played t (c.in_ok-works.ensures t shows) (turns_left c.args.trace c.in_ok-trace.trace t c.in_ok-trace.ensures shows) can)) can.lines) (c.len.ensures ∙ keys) c.in_ok-text.ensures
+    c.in_ok-image.ensures.words has.recovery
+    (c.counts_of-counts.ensures t turns (holds_items meaning t c.args.start false r c.new.result.items after ran) can.lines) has.count_is c.in_ok-text.ensures
