@@ -88,7 +88,8 @@ excuse_lost Tree v was now g e = both was.failed now.failed was.helped now.helpe
     both : (a b c d : ℕ) → b ≡ a + 1 → c ≤ d → a + c + 1 ≤ b + d
     both a b c d h i = omega (arith, h, i)
 
-excuse_helped : (k : Kind) (v : Event) (was now : Tally) → GrowsTo v was now → k ≡ Tree → now.helped ≡ was.helped + 1 → excuses k was + 1 ≤ excuses k now
+excuse_helped : (k : Kind) (v : Event) (was now : Tally) → GrowsTo v was now → k ≡ Tree → now.helped ≡ was.helped + 1 →
+    excuses k was + 1 ≤ excuses k now
 excuse_helped k v was now g tree e = subst (λ x. excuses x was + 1 ≤ excuses x now) (sym tree) (both was.failed now.failed was.helped now.helped g.failed.least e)
   where
     both : (a b c d : ℕ) → a ≤ b → d ≡ c + 1 → a + c + 1 ≤ b + d
