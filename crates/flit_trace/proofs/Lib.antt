@@ -8,6 +8,7 @@ pub mod Counting
 pub mod StartBlocks
 pub mod GoodReadings
 pub mod LoopSteps
+pub mod FirstLines
 pub mod ShownTraces
 pub mod OneResult
 pub mod RightLines

@@ -13,11 +13,11 @@ use Rattle.flit_trace.specs.declared.sentences.Sentence.{Sentence}
 use Rattle.flit_trace.specs.declared.sentences.Sentence.TheVariants.{Version, Structure, Adjacent, Hashed, Packed, Lines, Rows, Workers, Versions, Start, Word, Begin, Insert, Remove, Contains, Get, Evict, Stop, Turn, Ahead, AheadAll, End}
 use Rattle.flit_trace.specs.declared.drafts.Draft.{Draft}
 use Rattle.flit_trace.specs.Contents.{ItemLine, Contents, value_or_0, with_item, told_with}
-use Rattle.flit_trace.specs.Drafts.{Goes, verdict, buckets_verdict, line_verdict, with_line, is_key, is_value, IsSound}
+use Rattle.flit_trace.specs.Drafts.{Goes, verdict, buckets_verdict, line_verdict, with_line, is_early, is_key, is_value, IsSound}
 use Rattle.flit_trace.specs.Rights.{IsRightItem, IsRightLine, IsRightTurn, lines_of_items}
 use Rattle.flit_trace.proofs.Goings.{went, only_if-goes, if_else-goes, both}
 use Rattle.flit_trace.proofs.Numbers.{worker_within, line_right}
-use Rattle.flit_trace.proofs.StartBlocks.{is_early, version_early, structure_early, place_early, rows_early, workers_early, versions_early, block_late}
+use Rattle.flit_trace.proofs.StartBlocks.{version_early, structure_early, place_early, rows_early, workers_early, versions_early, block_late}
 
 -- what the lines so far tell is right for the layout, and none came before the head was whole
 pub record AreSoFar {X : Type 0} (P : Layout → X → Type 0) (d : Draft) (xs : List X) : Type 0 where

@@ -10,19 +10,12 @@ use Rattle.flit_trace.specs.declared.heads.Place.TheVariants as place
 use Rattle.flit_trace.specs.declared.sentences.Sentence.{Sentence}
 use Rattle.flit_trace.specs.declared.sentences.Sentence.TheVariants.{Version, Structure, Adjacent, Hashed, Packed, Lines, Rows, Workers, Versions, Start, Word, Begin, Insert, Remove, Contains, Get, Evict, Stop, Turn, Ahead, AheadAll, End}
 use Rattle.flit_trace.specs.declared.stages.Stage.{Stage}
-use Rattle.flit_trace.specs.declared.stages.Stage.TheVariants.{AtVersion, AtStructure, AtPlace, AtRows, AtWorkers, AtVersions, AtStart, InBlock, InBody, Ended}
+use Rattle.flit_trace.specs.declared.stages.Stage.TheVariants.{AtVersion, AtStructure, AtPlace, AtRows, AtWorkers, AtVersions, AtStart, InBlock, InBody}
 use Rattle.flit_trace.specs.declared.drafts.Draft.{Draft}
 use Rattle.flit_trace.specs.Contents.{Contents, filled, told_with}
-use Rattle.flit_trace.specs.Drafts.{Goes, verdict, buckets_verdict, line_verdict, with_structure, with_place, with_line, start_layout, takes_version, takes_structure, takes_place, takes_rows, takes_workers, takes_versions, takes_start, is_in_block, takes_body}
+use Rattle.flit_trace.specs.Drafts.{Goes, verdict, buckets_verdict, line_verdict, with_structure, with_place, with_line, start_layout, takes_version, takes_structure, takes_place, takes_rows, takes_workers, takes_versions, takes_start, is_in_block, takes_body, is_early}
 use Rattle.flit_trace.proofs.Goings.{went, only_if-goes, if_else-goes, both, up_to-goes}
 use Rattle.flit_trace.proofs.Filling.{length-filled}
-
--- a line of the head may still come
-abbrev pub is_early : Stage → Bool
-is_early InBlock = false
-is_early InBody = false
-is_early Ended = false
-is_early _ = true
 
 pub version_early : (s : Stage) → takes_version s ≡ true → is_early s ≡ true
 version_early AtVersion h = refl
@@ -49,7 +42,7 @@ pub versions_early : (s : Stage) → takes_versions s ≡ true → is_early s �
 versions_early AtVersions h = refl
 versions_early _ h = absurd (cc)
 
-start_early : (s : Stage) → takes_start s ≡ true → is_early s ≡ true
+pub start_early : (s : Stage) → takes_start s ≡ true → is_early s ≡ true
 start_early AtVersions h = refl
 start_early AtStart h = refl
 start_early _ h = absurd (cc)

@@ -99,6 +99,13 @@ abbrev pub is_ended : Stage → Bool
 is_ended Ended = true
 is_ended _ = false
 
+-- a line of the head may still come
+abbrev pub is_early : Stage → Bool
+is_early InBlock = false
+is_early InBody = false
+is_early Ended = false
+is_early _ = true
+
 -- version 2 has values
 abbrev pub version_verdict : Draft → ℕ → Verdict
 version_verdict d n =

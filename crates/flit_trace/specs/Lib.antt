@@ -4,6 +4,7 @@ pub mod Ahead
 pub mod Contents
 pub mod Counts
 pub mod Grammar
+pub mod Heads
 pub mod Entries
 pub mod Index
 pub mod Starts

@@ -8,13 +8,21 @@ use Rattle.flit_trace.specs.declared.drafts.Draft.{Draft}
 use Rattle.flit_trace.specs.declared.index.Index.{Index}
 use Rattle.flit_trace.specs.Contents.{Contents}
 use Rattle.flit_trace.specs.Drafts.{is_ended, IsSound}
-use Rattle.flit_trace.specs.Grammar.{beginning, IsLine, IsReadFrom, IsFaultFrom, IsRefused}
+use Rattle.flit_trace.specs.Grammar.{Reading, beginning, IsLine, IsReadFrom, IsFaultFrom, IsRefused}
 use Rattle.flit_trace.specs.Index.{IsIndexOf}
 
 -- with line n an index of what was told becomes one of what is told then
 abbrev pub LeadsTo : ℕ → Draft → Index → Contents → List ℕ → Draft → Index → Type 0
 LeadsTo n d x t line e y =
     IsIndexOf x t → (u : Contents) × IsIndexOf y u × IsLine n (record { draft = d; told = t }) line (record { draft = e; told = u })
+
+-- wherever the line leads from this draft, the draft there is that one
+abbrev pub LeadsOnlyTo : Draft → List ℕ → Draft → Type 0
+LeadsOnlyTo d line e = (n : ℕ) (t : Contents) (q : Reading) → IsLine n (record { draft = d; told = t }) line q → q.draft ≡ e
+
+-- the line can't stand behind lines of this draft
+abbrev pub CannotStand : Draft → List ℕ → Type 0
+CannotStand d line = (n : ℕ) (t : Contents) (q : Reading) → ¬ IsLine n (record { draft = d; told = t }) line q
 
 -- the error is the fault of line n, unless memory ran out
 abbrev pub IsLineError : ℕ → Draft → List ℕ → TraceError → Type 0

@@ -1,6 +1,7 @@
 //! Traces: texts that say which structure is used and what its workers are to do.
 #![tactic(auto)]
 
+mod ahead;
 mod drafts;
 mod entries;
 mod faults;
@@ -16,6 +17,7 @@ mod steps;
 mod tests;
 mod traces;
 
+pub use ahead::head_ahead;
 pub use faults::{Bound, TraceError};
 pub use heads::{Head, Place};
 pub use laws::{merged_scripts, one_result, start_images, within_limits};

@@ -18,7 +18,7 @@ use flit_words::{MOST_BYTES, first_line};
 use std::alloc::Global;
 
 /// Whether a line says nothing.
-fn says_nothing(line: &[u8]) -> bool
+pub(crate) fn says_nothing(line: &[u8]) -> bool
     ensures { result ≡ is_silent line.now }
 {
     match line.first() {

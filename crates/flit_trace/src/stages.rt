@@ -1,5 +1,5 @@
 ghost use Rattle.std.specs.Prelude.{◌≡◌};
-ghost use Rattle.flit_trace.specs.Drafts.{takes_version, takes_structure, takes_place, takes_rows, takes_workers, takes_versions, takes_start, is_in_block, takes_body, is_ended};
+ghost use Rattle.flit_trace.specs.Drafts.{takes_version, takes_structure, takes_place, takes_rows, takes_workers, takes_versions, takes_start, is_in_block, takes_body, is_ended, is_early};
 
 /// Which line may come next.
 #[derive(Clone, Copy, Debug, PartialEq, Eq)]
@@ -84,6 +84,13 @@ impl Stage {
         ensures { result ≡ takes_body self }
     {
         matches!(self, Stage::AtVersions | Stage::AtStart | Stage::InBody)
+    }
+
+    /// Whether a line of the head may still come.
+    pub(crate) fn is_early(self) -> bool
+        ensures { result ≡ is_early self }
+    {
+        !matches!(self, Stage::InBlock | Stage::InBody | Stage::Ended)
     }
 
     /// Whether `end` has been read.
