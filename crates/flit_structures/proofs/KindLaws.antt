@@ -1,5 +1,5 @@
 -- The structure of each kind keeps the laws of a structure, and a trace is right for it.
-use Rattle.std.proofs.Common.{◌≡◌, ◌∙◌, ℕ, List, refl, sym}
+use Rattle.std.proofs.Common.{◌≡◌, ◌∙◌, ℕ, List, sym}
 use Rattle.flit_words.specs.declared.layouts.Kind.{Kind}
 use Rattle.flit_words.specs.declared.layouts.Kind.TheVariants.{List as List_kind, Hash, Tree}
 use Rattle.flit_words.specs.declared.layouts.Layout.{Layout}

@@ -10,7 +10,6 @@ use Rattle.flit_trace.specs.Drafts.{IsPlace}
 use Rattle.flit_trace.specs.Grammar.{IsTrace}
 use Rattle.flit_trace.specs.SeenTraces.{SeenTrace, Shows, IsReadAs}
 use Rattle.flit_trace.specs.declared.heads.Head.{Head}
-use Rattle.flit_trace.specs.declared.heads.Place.{Place as Trace_place}
 use Rattle.flit_trace.specs.declared.heads.Place.TheVariants.{Hashed}
 use Rattle.flit_step_runs.specs.Plays.{CanPlay, CanPlaySeen}
 use Rattle.flit_structures.specs.Openings.{TracesPlay}

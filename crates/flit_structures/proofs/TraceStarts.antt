@@ -1,7 +1,9 @@
--- What recovery finds in a start image is so of the trace that has it.
-use Rattle.std.proofs.Common.{◌≡◌, ◌≢◌, ℕ, true, List, Some, sym, ◌∙◌, ap, subst, Result, Ok, Err, IfOk, IfErr}
+-- What recovery finds in a start image is so of the trace that has it, and what it finds in fresh words of each trace that has none.
+use Rattle.std.proofs.Common.{◌≡◌, ◌≢◌, ℕ, true, List, Some, None, sym, ◌∙◌, ap, subst, Result, Ok, Err, IfOk, IfErr}
 use Rattle.flit_words.specs.declared.layouts.Layout.{Layout}
+use Rattle.flit_words.specs.declared.memory.NoMemory.{NoMemory as No_memory}
 use Rattle.flit_model.specs.Recovery.{SameShape, IsRecovery, layout_of, image_layout}
+use Rattle.flit_model.specs.States.{fresh_words}
 use Rattle.flit_model.specs.declared.found.Image.{Image}
 use Rattle.flit_model.specs.declared.found.Recovered.{Recovered}
 use Rattle.flit_recover.specs.Damages.{IsFirstDamage}
@@ -10,8 +12,9 @@ use Rattle.flit_recover.specs.declared.found.Damage.TheVariants.{NoMemory}
 use Rattle.flit_trace.specs.AboutTraces.{StartIsValued}
 use Rattle.flit_trace.specs.SeenTraces.{SeenTrace}
 use Rattle.flit_trace.specs.Starts.{IsStartOf}
-use Rattle.flit_step_reports.specs.StepReports.{start_words, words_or}
-use Rattle.flit_structures.specs.Starts.{StartsSeen, IsStartDamage, words_layout}
+use Rattle.flit_trace.specs.declared.heads.Head.{Head}
+use Rattle.flit_step_reports.specs.StepReports.{words_or}
+use Rattle.flit_structures.specs.Starts.{StartsSeen, StartsFresh, IsStartDamage, words_layout}
 
 abbrev pub ShapesKeep : Type 0
 ShapesKeep = (l k : Layout) (words keys values free : List ℕ) → SameShape l k → IsRecovery l words keys values free → IsRecovery k words keys values free
@@ -65,3 +68,37 @@ module _ (trace : SeenTrace) (valued : StartIsValued) where
       IfErr found (λ d. d ≢ NoMemory → IsStartDamage trace d)
   starts_damaged image (Ok start) has is damage = tt
   starts_damaged image (Err d) has is damage = λ some. found_damage image d has is (damage some)
+
+-- ---- fresh words
+
+module _ (head : Head) where
+  in_its_words : (start : Recovered) → IsRecovery head.layout (fresh_words head.layout) start.keys.items start.values.items start.free.items →
+      start.image.words.items ≡ fresh_words head.layout →
+      IsRecovery head.layout start.image.words.items start.keys.items start.values.items start.free.items
+  in_its_words start recovery words =
+      subst (λ ws. IsRecovery head.layout ws start.keys.items start.values.items start.free.items) (sym words) recovery
+
+  starts_fresh : (start : Recovered) → IsRecovery head.layout (fresh_words head.layout) start.keys.items start.values.items start.free.items →
+      start.image.words.items ≡ fresh_words head.layout → StartsFresh head start
+  starts_fresh start recovery words = λ trace same none bytes t reads shows.
+      let here : head ≡ t.head = sym same ∙ shows.head in
+      let told : t.start ≡ None = sym shows.start ∙ none in
+      record {
+        words = words ∙ ap (λ (h : Head). fresh_words h.layout) here ∙ sym (ap (words_or (fresh_words t.head.layout)) told);
+        recovery = subst (λ (h : Head). IsRecovery h.layout start.image.words.items start.keys.items start.values.items start.free.items) here
+            (in_its_words start recovery words);
+      }
+
+  -- whatever recovery of fresh words gave
+  pub fresh_found : (found : Result Recovered No_memory) →
+      IfOk found (λ r. IsRecovery head.layout (fresh_words head.layout) r.keys.items r.values.items r.free.items) →
+      IfOk found (λ r. r.image.words.items ≡ fresh_words head.layout) →
+      IfOk found (λ r. IsRecovery head.layout r.image.words.items r.keys.items r.values.items r.free.items)
+  fresh_found (Ok start) recovery words = in_its_words start recovery words
+  fresh_found (Err e) recovery words = tt
+
+  pub fresh_starts : (found : Result Recovered No_memory) →
+      IfOk found (λ r. IsRecovery head.layout (fresh_words head.layout) r.keys.items r.values.items r.free.items) →
+      IfOk found (λ r. r.image.words.items ≡ fresh_words head.layout) → IfOk found (StartsFresh head)
+  fresh_starts (Ok start) recovery words = starts_fresh start recovery words
+  fresh_starts (Err e) recovery words = tt

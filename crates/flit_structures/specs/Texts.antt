@@ -10,6 +10,7 @@ use Rattle.flit_recover.specs.declared.found.Damage.TheVariants.{NoMemory as No_
 use Rattle.flit_trace.specs.declared.heads.Place.TheVariants.{Lines}
 use Rattle.flit_trace.specs.Contents.{Content}
 use Rattle.flit_trace.specs.Grammar.{IsTrace, IsTraceFault}
+use Rattle.flit_trace.specs.SeenTraces.{SeenTrace, IsReadAs}
 use Rattle.flit_step_reports.specs.StepReports.{StartsAt, start_words}
 use Rattle.flit_step_sentences.specs.StepTexts.{IsStepText}
 use Rattle.flit_structures.specs.Runs.{IsImageOfRun}
@@ -63,3 +64,7 @@ HasNoText bytes (Trace error) = IsTraceFault bytes error
 HasNoText bytes Unplayable = IsUnplayable bytes
 HasNoText bytes (Start damage) = HasStartDamage bytes damage
 HasNoText bytes NoMemory = Unit {0}
+
+-- from whatever bytes a trace was read, where it is played this is why they have no text
+abbrev pub StartRefused : SeenTrace → NoText → Type 0
+StartRefused trace error = (bytes : List ℕ) → IsReadAs bytes trace → IsPlayable trace.head → HasNoText bytes error

@@ -1,5 +1,5 @@
 ghost use Rattle.flit_structures.specs.Headlines.{TracesSayHeadline};
-ghost use Rattle.flit_structures.specs.Openings.{TracesOpen, TracesPlay};
+ghost use Rattle.flit_structures.specs.Openings.{HeadsOpen, TracesOpen, TracesPlay};
 ghost use Rattle.flit_structures.specs.RightTraces.{RightTracesAreAnswered};
 ghost use Rattle.flit_structures.specs.Structures.{RoomsAreFree};
 
@@ -8,11 +8,20 @@ use flit_recover::{one_damage_of_lists, one_damage_of_trees};
 use flit_sched::recovered_opens;
 use flit_trace::{merged_scripts, one_result, within_limits};
 
+/// The structure that a head names may be opened at what recovery finds in words of its layout, unless its tags have a slot
+/// for each line of eight words.
+pub fn heads_open()
+    ensures { HeadsOpen }
+{
+    recovered_opens();
+}
+
 /// The structure that a trace names may be opened at what recovery finds where the trace starts, with the works of the
 /// trace, unless its tags have a slot for each line of eight words.
 pub fn traces_open()
     ensures { TracesOpen }
 {
+    heads_open();
     recovered_opens();
     within_limits();
 }

@@ -10,9 +10,10 @@ mod tests;
 mod texts;
 
 pub use laws::{
-    right_traces_are_answered, rooms_are_free, traces_open, traces_play, traces_say_headline,
+    heads_open, right_traces_are_answered, rooms_are_free, traces_open, traces_play,
+    traces_say_headline,
 };
 pub use reports::told;
 pub use runs::{Wanted, image_of_run, text_of_run};
-pub use starts::start_of;
-pub use texts::{NoText, owned_trace_and_start, text_of_trace, trace_and_start};
+pub use starts::fresh_start;
+pub use texts::{NoText, owned_trace_and_start, owned_trace_of, start_in, text_of_trace, trace_of};

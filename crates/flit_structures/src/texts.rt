@@ -3,7 +3,7 @@ ghost use Rattle.flit_trace.specs.SeenTraces.{IsReadAs};
 ghost use Rattle.flit_structures.specs.Refusals.{status_of_no_text};
 ghost use Rattle.flit_structures.specs.Starts.{StartsSeen};
 ghost use Rattle.flit_structures.specs.Structures.{IsPlayable};
-ghost use Rattle.flit_structures.specs.Texts.{IsTextOf, HasNoText};
+ghost use Rattle.flit_structures.specs.Texts.{IsTextOf, HasNoText, StartRefused};
 
 use crate::laws::traces_say_headline;
 use crate::reports::told;
@@ -51,15 +51,13 @@ fn is_played(place: Place) -> bool
     }
 }
 
-/// The trace that the bytes are, and what recovery finds where it starts.
+/// The trace that the bytes are, if it is played.
 ///
 /// # Errors
-/// The first fault of the bytes, then Unplayable, then the first damage of the start image. NoMemory may come in the place
-/// of each.
-pub fn trace_and_start(alloc: Global, bytes: &[u8]) -> Result<(Trace<'_>, Recovered), NoText>
-    ensures read { IfOk result (λ found. IsReadAs bytes.now found.0) }
-    ensures playable { IfOk result (λ found. IsPlayable found.0.head) }
-    ensures starts { IfOk result (λ found. StartsSeen found.0 found.1) }
+/// The first fault of the bytes, then Unplayable. NoMemory may come in the place of each.
+pub fn trace_of(alloc: Global, bytes: &[u8]) -> Result<Trace<'_>, NoText>
+    ensures read { IfOk result (IsReadAs bytes.now) }
+    ensures playable { IfOk result (λ trace. IsPlayable trace.head) }
     ensures none { IfErr result (HasNoText bytes.now) }
 {
     let trace = match read_trace(alloc, bytes) {
@@ -74,20 +72,58 @@ pub fn trace_and_start(alloc: Global, bytes: &[u8]) -> Result<(Trace<'_>, Recove
     if !is_played(trace.head().place) {
         return Err(NoText::Unplayable);
     }
-    let start = match start_of(alloc, &trace) {
-        Ok(start) => start,
+    Ok(trace)
+}
+
+/// The same of bytes that are let go.
+///
+/// # Errors
+/// Those of `trace_of`, in the same order.
+pub fn owned_trace_of(alloc: Global, bytes: Vec<u8>) -> Result<Trace<'static>, NoText>
+    ensures read { IfOk result (IsReadAs bytes.items) }
+    ensures playable { IfOk result (λ trace. IsPlayable trace.head) }
+    ensures none { IfErr result (HasNoText bytes.items) }
+{
+    let trace = trace_of(alloc, &bytes)?;
+    Ok(trace.into_owned())
+}
+
+/// What recovery finds where a trace starts.
+///
+/// # Errors
+/// The first damage of the start image, or NoMemory.
+pub fn start_in(alloc: Global, trace: &Trace) -> Result<Recovered, NoText>
+    ensures starts { IfOk result (StartsSeen trace.now) }
+    ensures refused { IfErr result (StartRefused trace.now) }
+{
+    match start_of(alloc, trace) {
+        Ok(start) => Ok(start),
         Err(damage) => match damage {
-            Damage::NoMemory => return Err(NoText::NoMemory),
-            _ => return Err(NoText::Start(damage)),
+            Damage::NoMemory => Err(NoText::NoMemory),
+            _ => Err(NoText::Start(damage)),
         },
-    };
+    }
+}
+
+/// The trace that the bytes are, and what recovery finds where it starts.
+///
+/// # Errors
+/// Those of `trace_of`, then those of `start_in`.
+fn trace_and_start(alloc: Global, bytes: &[u8]) -> Result<(Trace<'_>, Recovered), NoText>
+    ensures read { IfOk result (λ found. IsReadAs bytes.now found.0) }
+    ensures playable { IfOk result (λ found. IsPlayable found.0.head) }
+    ensures starts { IfOk result (λ found. StartsSeen found.0 found.1) }
+    ensures none { IfErr result (HasNoText bytes.now) }
+{
+    let trace = trace_of(alloc, bytes)?;
+    let start = start_in(alloc, &trace)?;
     Ok((trace, start))
 }
 
 /// The same of bytes that are let go.
 ///
 /// # Errors
-/// Those of `trace_and_start`, in the same order.
+/// Those of `trace_of`, then those of `start_in`.
 pub fn owned_trace_and_start(
     alloc: Global,
     bytes: Vec<u8>,
@@ -105,7 +141,7 @@ pub fn owned_trace_and_start(
 /// lines are given, and then each worker runs until it is out. The bytes are let go before the run.
 ///
 /// # Errors
-/// Those of `trace_and_start`, in the same order.
+/// Those of `trace_of`, then those of `start_in`.
 pub fn text_of_trace(alloc: Global, bytes: Vec<u8>, wanted: Wanted) -> Result<Vec<u8>, NoText>
     ensures text { IfOk result (λ text. IsTextOf bytes.items wanted text.items) }
     ensures none { IfErr result (HasNoText bytes.items) }

@@ -1,4 +1,4 @@
-use Rattle.std.proofs.Common.{◌≡◌, ◌∙◌, ap, sym}
+use Rattle.std.proofs.Common.{◌∙◌, ap, sym}
 use Rattle.flit_structures.proofs.PlacedReports.{some_slots, found_here, plays_over, told_over}
 use Rattle.flit_structures.specs.Structures.{placing_of}
 use Rattle.flit_structures.proofs.reports.told.Goals as goal

@@ -1,4 +1,4 @@
-use Rattle.std.proofs.Common.{◌≡◌, ◌∙◌, ap, sym, subst}
+use Rattle.std.proofs.Common.{◌∙◌, ap, sym, subst}
 use Rattle.std.specs.List.Sorted.{IsStrictlyIncreasing}
 use Rattle.flit_rows.proofs.DealLaws.{increasing_from_rising}
 use Rattle.flit_structures.proofs.ReportSteps.{on_list, on_hash}
