@@ -1,5 +1,5 @@
 -- The works of a trace on a structure that opens where the trace starts.
-use Rattle.std.proofs.Common.{◌≡◌, ◌≤◌, List, [], ◌∷◌, length, sym, subst, arith}
+use Rattle.std.proofs.Common.{◌≡◌, ◌≤◌, List, [], ◌∷◌, length, arith}
 use Rattle.std.specs.List.{AllByRecursion}
 use Rattle.flit_words.specs.declared.layouts.Layout.{Layout}
 use Rattle.flit_words.specs.declared.limits.TheConstants.{MOST_CALLS}
@@ -8,7 +8,6 @@ use Rattle.flit_model.specs.declared.calls.Item.{Item}
 use Rattle.flit_model.specs.declared.calls.Item.TheVariants.{Call as Call_item, Evict as Evict_item}
 use Rattle.flit_model.specs.declared.calls.Outcome.{Outcome}
 use Rattle.flit_model.specs.declared.calls.Work.{Work}
-use Rattle.flit_model.specs.declared.found.Recovered.{Recovered}
 use Rattle.flit_structure.specs.Meanings.{Meaning}
 use Rattle.flit_structure.proofs.Names.{all_map}
 use Rattle.flit_trace.specs.Contents.{Content}
@@ -40,17 +39,15 @@ right_works l works h = record {
   most = few_items works h.most;
 }
 
--- what keeps all promises from where the structure was opened, tells the trace
-pub told_of_trace : {S Op : Type 0} (meanings : S → Meaning Op) (home : Home S) (s : S) (start : Recovered) (t : Content) (works : List Work)
-    (outcomes : List (List Outcome)) (k : Known) → ((r : S) (o : Origin S) → PromisesTellTraces (meanings r) o) → home.origin.structure.value ≡ s →
-    home.origin.start.value ≡ start → CanRun (meanings s) start t → AreWorksOf t works → k.ahead ≡ No_ahead →
-    KeepsPromises (meaning_of meanings home) home.origin works outcomes k → TellsTrace t start k outcomes
-told_of_trace meanings home s start t works outcomes k law is from can are none h =
-    subst (λ x. TellsTrace t x k outcomes) from
-    (law s home.origin t works outcomes k (record {
+-- what keeps all promises on a structure that was opened where the trace can be run, tells the trace
+pub told_of_trace : {S Op : Type 0} (meanings : S → Meaning Op) (home : Home S) (t : Content) (works : List Work) (outcomes : List (List Outcome)) (k : Known) →
+    ((r : S) (o : Origin S) → PromisesTellTraces (meanings r) o) → CanRun (meaning_of meanings home) home.origin.start.value t → AreWorksOf t works →
+    k.ahead ≡ No_ahead → KeepsPromises (meaning_of meanings home) home.origin works outcomes k → TellsTrace t home.origin.start.value k outcomes
+told_of_trace meanings home t works outcomes k law can are none kept =
+    law home.origin.structure.value home.origin t works outcomes k (record {
       layout = can.layout;
-      room = subst (λ (x : Recovered). (meanings s).room ≡ length x.free.items) (sym from) can.room;
+      room = can.room;
       are_works = are;
       ahead = none;
-      promises = subst (λ r. KeepsPromises (meanings r) home.origin works outcomes k) is h;
-    }))
+      promises = kept;
+    })

@@ -1,2 +1,3 @@
 pub mod PlacedRuns
+pub mod SourceLaws
 pub mod WantedTexts

@@ -2,7 +2,10 @@
 #![tactic(auto)]
 
 mod laws;
+mod opening;
+mod placed;
 mod runs;
+mod sources;
 mod texts;
 
 pub use laws::traces_run;

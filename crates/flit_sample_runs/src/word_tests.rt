@@ -55,7 +55,7 @@ fn opened<P: Placement + Drop>(
     let link_word = layout.row_word(1, 1) as usize;
     assert!(rt; link_word < start.image.words.len());
     assert!(rt; !Link::of(Word::unpack(start.image.words[link_word]).value).mark);
-    Ok(open_words(alloc, layout, place, &start)?)
+    Ok(open_words(alloc, layout, place, start)?)
 }
 
 fn is_whole(rt: &impl Abort, image: &Image)

@@ -22,13 +22,13 @@ pub fn open_words<P: Placement + Drop>(
     alloc: Global,
     layout: Layout,
     place: P,
-    start: &Recovered,
+    start: Recovered,
 ) -> Result<(Running<Sample<P>>, Pass<Sample<P>>), NoMemory>
     requires small { IsSmall layout }
-    requires found { IsRecovery layout start.now.image.words.items start.now.keys.items
-        start.now.values.items start.now.free.items }
-    requires unmarked { links_none (slice_index start.now.image.words.items 0) ≡ false →
-        (link_in start.now.image.words.items (key_word layout + 1)).mark ≡ false }
+    requires found { IsRecovery layout start.image.words.items start.keys.items start.values.items
+        start.free.items }
+    requires unmarked { links_none (slice_index start.image.words.items 0) ≡ false →
+        (link_in start.image.words.items (key_word layout + 1)).mark ≡ false }
     requires slots { (word : ℕ) → word < words_of layout →
         IsSlot (P.place place).counted layout.slots ((P.place place).slot word) }
     ensures works { IfOk result (λ r. MayWork (sample P.place) r.0 r.1) }

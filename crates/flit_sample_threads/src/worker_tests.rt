@@ -59,7 +59,7 @@ pub fn opened<P: Placement + Drop>(
     let link_word = layout.row_word(1, 1) as usize;
     assert!(rt; link_word < start.image.words.len());
     assert!(rt; !Link::of(Word::unpack(start.image.words[link_word]).value).mark);
-    Ok(open_words(alloc, *layout, place, &start)?)
+    Ok(open_words(alloc, *layout, place, start)?)
 }
 
 /// Works of one call each, with this stop.

@@ -115,7 +115,7 @@ pub(crate) fn shared(alloc: Global, rows: u32, times: u32) -> Result<Counted, No
     requires most { rows ≤ 100 }
 {
     let (list, start) = on_fresh_words(alloc, rows)?;
-    let (running, mut pass) = Running::open(alloc, list, &start)?;
+    let (running, mut pass) = Running::open(alloc, list, start)?;
     fill_shared(&running, &mut pass, rows);
     Ok(answers(&running, &mut pass, Call::Contains(rows), times))
 }

@@ -60,7 +60,7 @@ pub(crate) fn answers<S: Structure>(
 /// Contains of the one key, which is there, on words that threads share.
 pub(crate) fn contains(alloc: Global, times: u32) -> Result<Counted, NoMemory> {
     let (sample, start) = on_fresh_words(alloc)?;
-    let (running, mut pass) = Running::open(alloc, sample, &start)?;
+    let (running, mut pass) = Running::open(alloc, sample, start)?;
     let put = answers(&running, &mut pass, PUT, 1);
     let found = answers(&running, &mut pass, HAS, times);
     Ok(Counted {

@@ -72,7 +72,7 @@ pub(crate) fn shared(alloc: Global, keys: u32, times: u32) -> Result<Counted, No
     requires most { keys ≤ 100 }
 {
     let (tree, start) = on_fresh_words(alloc, keys)?;
-    let (running, mut pass) = Running::open(alloc, tree, &start)?;
+    let (running, mut pass) = Running::open(alloc, tree, start)?;
     fill_shared(&running, &mut pass, keys);
     Ok(answers(&running, &mut pass, Call::Contains(1), times))
 }

@@ -1,5 +1,5 @@
 -- An event of a call at a running structure, which may be a load behind another.
-use Rattle.std.proofs.Common.{◌≡◌, ℕ, suc, ◌+◌, Some, refl, sym, ap, subst, arith, add-one}
+use Rattle.std.proofs.Common.{◌≡◌, ℕ, suc, ◌+◌, Some, refl, sym, subst, arith, add-one}
 use Rattle.atomic_table.specs.declared.shared.Seat.{Seat}
 use Rattle.flit_model.specs.declared.calls.Call.{Call}
 use Rattle.flit_model.specs.declared.events.Event.{Event}

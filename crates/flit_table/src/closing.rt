@@ -1,5 +1,6 @@
-ghost use Rattle.std.specs.Prelude.{◌≡◌, ℕ, ◌+◌, ◌*◌, ◌<◌, ◌==◌, true, false, None, Some, IfOk};
+ghost use Rattle.std.specs.Prelude.{◌≡◌, ℕ, [], ◌+◌, ◌*◌, ◌<◌, ◌≤◌, ◌==◌, true, false, None, Some, IfOk};
 ghost use Rattle.std.specs.List.{list_any};
+ghost use Rattle.std.specs.Vec.{vec_capacity, vec_len};
 ghost use Rattle.std.specs.Mem.Slots.{IsFull, slots_len, slots_items};
 ghost use Rattle.flit_model.specs.Recovery.{IsImageOf};
 ghost use Rattle.flit_table.specs.Passes.{BelongsTo, view_of};
@@ -41,7 +42,11 @@ impl<S: Structure> Running<S> {
         let Some(inside) = running.take() else {
             unreachable!()
         };
-        let Running { structure, table } = inside;
+        let Running {
+            structure,
+            table,
+            room,
+        } = inside;
         let layout = *structure.layout();
         let count = layout.words();
         let Pass { held } = pass;
@@ -54,7 +59,7 @@ impl<S: Structure> Running<S> {
             rest: _,
         } = held;
         let closed = table.close_with(seat);
-        let words = image_of_table(alloc, &closed, count, ahead);
+        let words = image_of_table(room, &closed, count, ahead);
         closed.free();
         let image = Image {
             kind: layout.kind,
@@ -95,9 +100,20 @@ fn image_word(closed: &Closed<u64, Global>, count: u32, word: u32) -> u64
     taken_or_kept(now, shadow)
 }
 
+// The memory of a list that is no longer needed, with room for so many words.
+fn emptied(mut room: Vec<u64>, count: u32) -> Result<Vec<u64>, NoMemory>
+    ensures items { IfOk result (λ v. v.items ≡ []) }
+    ensures len { IfOk result (λ v. vec_len v ≡ 0) }
+    ensures capacity { IfOk result (λ v. count ≤ vec_capacity v) }
+{
+    room.clear();
+    room.reserve_exact(count as usize)?;
+    Ok(room)
+}
+
 // The image that takes no value ahead: the shadows.
 fn image_of_shadows(
-    alloc: Global,
+    room: Vec<u64>,
     closed: &Closed<u64, Global>,
     count: u32,
 ) -> Result<Vec<u64>, NoMemory>
@@ -106,7 +122,7 @@ fn image_of_shadows(
     ensures { IfOk result (λ v. v.items ≡ image_in (λ w. false) count
         (slots_items closed.now.words)) }
 {
-    let mut image = Vec::with_capacity(alloc, count as usize)?;
+    let mut image = emptied(room, count)?;
     for word in 0..count {
         let shadow = closed.word(count as usize + (word as usize + 1));
         image.push_reserved(shadow);
@@ -116,7 +132,7 @@ fn image_of_shadows(
 
 // The image that takes all values ahead.
 fn image_with_all(
-    alloc: Global,
+    room: Vec<u64>,
     closed: &Closed<u64, Global>,
     count: u32,
 ) -> Result<Vec<u64>, NoMemory>
@@ -125,7 +141,7 @@ fn image_with_all(
     ensures { IfOk result (λ v. v.items ≡ image_in (λ w. true) count
         (slots_items closed.now.words)) }
 {
-    let mut image = Vec::with_capacity(alloc, count as usize)?;
+    let mut image = emptied(room, count)?;
     for word in 0..count {
         image.push_reserved(image_word(closed, count, word));
     }
@@ -149,7 +165,7 @@ fn take_ahead(closed: &Closed<u64, Global>, count: u32, image: &mut Vec<u64>, ch
 
 // The image of a table at its end.
 fn image_of_table(
-    alloc: Global,
+    room: Vec<u64>,
     closed: &Closed<u64, Global>,
     count: u32,
     ahead: &Ahead,
@@ -160,10 +176,10 @@ fn image_of_table(
         (slots_items closed.now.words)) }
 {
     match ahead {
-        Ahead::None => image_of_shadows(alloc, closed, count),
-        Ahead::All => image_with_all(alloc, closed, count),
+        Ahead::None => image_of_shadows(room, closed, count),
+        Ahead::All => image_with_all(room, closed, count),
         Ahead::Words(chosen) => {
-            let mut image = image_of_shadows(alloc, closed, count)?;
+            let mut image = image_of_shadows(room, closed, count)?;
             take_ahead(closed, count, &mut image, chosen.as_slice());
             Ok(image)
         }

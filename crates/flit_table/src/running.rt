@@ -17,6 +17,8 @@ use std::marker::{Brand, Model};
 pub struct Running<S: Structure> {
     pub(crate) structure: S,
     pub(crate) table: Table<u64, View<S, S::Op>, Origin<S>, Rule<S>, Global>,
+    /// Memory for the image at the close, which was that of the words at the opening.
+    pub(crate) room: Vec<u64>,
 }
 
 impl<S: Structure> Model for Running<S> {

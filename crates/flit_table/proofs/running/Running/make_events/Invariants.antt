@@ -1,4 +1,4 @@
-use Rattle.std.proofs.Common.{◌≡◌, ℕ, ◌+◌, ◌-◌, ◌≤◌, None}
+use Rattle.std.proofs.Common.{ℕ, ◌+◌, ◌-◌, ◌≤◌, None}
 use Rattle.flit_model.specs.declared.calls.Call.{Call}
 use Rattle.flit_structure.specs.Meanings.{replied}
 use Rattle.flit_table.specs.Steps.{Belongs}

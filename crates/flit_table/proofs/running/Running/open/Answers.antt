@@ -7,17 +7,17 @@ use Rattle.flit_table.proofs.running.Running.open.Goals as goal
 pub of_words-requires : goal.of_words-requires
 of_words-requires g c =
     let M = g.S.Structure.meaning in
-    let words : List ℕ = c.args.start.now.image.words.items in
-    let laid : c.as_slice-2.result.now ≡ 0 ∷ (words ++ (words ++ (replicate (M c.args.structure).layout.slots 0 ++ 0 ∷ []))) = search rules in
-    open_asked M g.met.S.Structure.lawful (record { structure = c.of.result; start = c.of-2.result }) c.args.structure c.args.start.now c.of.ensures
-    c.of-2.ensures c.requires c.as_slice-2.result.now laid
+    let words : List ℕ = c.args.start.image.words.items in
+    let laid : c.as_slice.result.now ≡ 0 ∷ (words ++ (words ++ (replicate (M c.args.structure).layout.slots 0 ++ 0 ∷ []))) = search rules in
+    open_asked M g.met.S.Structure.lawful (record { structure = c.of.result; start = c.of-2.result }) c.args.structure c.args.start c.of.ensures
+    c.of-2.ensures c.requires c.as_slice.result.now laid
 
 pub invariant_of-result : goal.invariant_of-result
 invariant_of-result g c =
     let M = g.S.Structure.meaning in
-    let words : List ℕ = c.args.start.now.image.words.items in
-    let laid : c.as_slice-2.result.now ≡ 0 ∷ (words ++ (words ++ (replicate (M c.args.structure).layout.slots 0 ++ 0 ∷ []))) = search rules in
-    table_of M g.met.S.Structure.lawful c.args.structure c.args.start.now c.requires c.as_slice-2.result.now laid c.in_ok-table.table.shared.key
+    let words : List ℕ = c.args.start.image.words.items in
+    let laid : c.as_slice.result.now ≡ 0 ∷ (words ++ (words ++ (replicate (M c.args.structure).layout.slots 0 ++ 0 ∷ []))) = search rules in
+    table_of M g.met.S.Structure.lawful c.args.structure c.args.start c.requires c.as_slice.result.now laid c.in_ok-table.table.shared.key
     c.in_ok-table.table.shared.table_id (search rules) (search rules) (search rules)
 
 pub returns-clause-pass : goal.returns-clause-pass
@@ -25,7 +25,7 @@ returns-clause-pass g c =
     let M = g.S.Structure.meaning in
     let key = c.in_ok-table.table.shared.key in
     let structure : key.structure.value ≡ c.args.structure = search rules in
-    let start : key.start.value ≡ c.args.start.now = search rules in
+    let start : key.start.value ≡ c.args.start = search rules in
     let post : c.in_ok-table.seat.me.0.post ≡ new_post 1 = search rules in
     record {
       belongs = search rules;
@@ -36,6 +36,6 @@ returns-clause-pass g c =
       most = search rules;
       at = search rules;
       queued = λ one. subst (EntersUnqueued (M key.structure.value)) (sym post)
-          (open_unqueued M g.met.S.Structure.lawful key key.structure.value c.args.start.now refl start
-          (subst (λ x. (M x).opens (opening_at c.args.start.now)) (sym structure) c.requires) one);
+          (open_unqueued M g.met.S.Structure.lawful key key.structure.value c.args.start refl start
+          (subst (λ x. (M x).opens (opening_at c.args.start)) (sym structure) c.requires) one);
     }
