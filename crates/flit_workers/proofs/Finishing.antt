@@ -1,16 +1,15 @@
 -- Workers that were ready and have run have ended.
-use Rattle.std.proofs.Common.{◌≡◌, ℕ, suc, ◌+◌, ◌<◌, ◌≤◌, List, [], ◌∷◌, ◌++◌, length, replicate, take, drop, get_or, sym, ap, ◌∙◌, subst, arith, append-nil}
+use Rattle.std.proofs.Common.{◌≡◌, ℕ, suc, ◌+◌, ◌<◌, ◌≤◌, List, [], ◌∷◌, ◌++◌, length, take, drop, get_or, sym, ap, ◌∙◌, subst, arith, append-nil}
 use Rattle.std.proofs.lemmas.List.{drop_all, take_all}
 use Rattle.std.specs.List.{AllByRecursion}
-use Rattle.flit_model.specs.declared.calls.Outcome.TheVariants.{Stopped}
 use Rattle.flit_model.specs.declared.calls.Work.{Work}
 use Rattle.flit_structure.specs.Meanings.{Meaning}
 use Rattle.flit_table.specs.declared.views.Origin.{Origin}
 use Rattle.flit_table.specs.declared.views.View.{View}
 use Rattle.flit_table.specs.Steps.{Home, meaning_of}
 use Rattle.flit_workers.specs.declared.ends.End.{End}
-use Rattle.flit_workers.specs.Works.{calls_in, IsRightItem, IsWorked}
-use Rattle.flit_workers.specs.Ends.{AllInOrder, share, MayRun, HasRun, IsReady, HasEnded}
+use Rattle.flit_workers.specs.Works.{IsRightItem, IsWorked}
+use Rattle.flit_workers.specs.Ends.{AllInOrder, HasRoomFor, share, MayRun, HasRun, IsReady, HasEnded}
 
 module _ {S Op : Type 0} (meanings : S → Meaning Op) (home : Home S) (v : View S Op) where
   abbrev meaning : Meaning Op
@@ -26,7 +25,7 @@ module _ {S Op : Type 0} (meanings : S → Meaning Op) (home : Home S) (v : View
     free = r.free;
     right = subst (λ (u : Work). AllByRecursion (IsRightItem (meaning_of meanings home).layout) u.items.items) (sym r.work) right;
     most = omega (arith, r.calls, ap (λ (u : Work). length u.items.items) r.work, most);
-    stopped = r.stopped ∙ ap (λ (u : Work). replicate (length (calls_in u.items.items)) Stopped) (sym r.work);
+    room = subst (λ (u : Work). HasRoomFor u.items.items e.outcomes) (sym r.work) r.room;
   }
 
   -- workers that are ready may run

@@ -118,7 +118,7 @@ module _ {S Op : Type 0} (meanings : S → Meaning Op) (home : Home S) where
       let v = g.held.seat.me.0 in
       let works : List Work = map (λ (r : Room). r.work) done in
       let one : IsReady meanings home (length done) v x.work (end_of x p) =
-      record { work = refl; pass = held; free = free; name = name; calls = calls; view = view; stopped = room } in
+      record { work = refl; pass = held; free = free; name = name; calls = calls; view = view; room = room } in
       let at : IsReady meanings home (0 + length works) v x.work (end_of x p) =
       subst (λ (n : ℕ). IsReady meanings home n v x.work (end_of x p)) (sym (length-map done (λ (r : Room). r.work)) ∙ omega arith) one in
       let all : AreReady meanings home v (works ++ x.work ∷ []) (ends ++ end_of x p ∷ []) =

@@ -1,8 +1,9 @@
 -- The workers of a running structure: who gets which name, and how each ends.
-use Rattle.std.specs.Prelude.{◌≡◌, ℕ, zero, suc, ◌+◌, ◌≤◌, List, [], ◌∷◌, length, replicate}
+use Rattle.std.specs.Prelude.{◌≡◌, ℕ, zero, suc, ◌+◌, ◌≤◌, List, [], ◌∷◌, length, Vec, vec_capacity}
 use Rattle.std.specs.List.{AllByRecursion}
 use Rattle.flit_words.specs.declared.layouts.Layout.{Layout}
-use Rattle.flit_model.specs.declared.calls.Outcome.TheVariants.{Stopped}
+use Rattle.flit_model.specs.declared.calls.Item.{Item}
+use Rattle.flit_model.specs.declared.calls.Outcome.{Outcome}
 use Rattle.flit_model.specs.declared.calls.Work.{Work}
 use Rattle.flit_structure.specs.Meanings.{Meaning}
 use Rattle.flit_table.specs.declared.views.View.{View}
@@ -19,9 +20,14 @@ pub record AreRight (l : Layout) (names : ℕ) (works : List Work) : Type 0 wher
   pub items : AllByRecursion (λ w. AllByRecursion (IsRightItem l) w.items.items) works
   pub most : AllByRecursion (λ w. length w.items.items ≤ 4294967295) works
 
+-- a list is empty, with room for the outcomes of the calls among some items
+pub record HasRoomFor {Z : Type 0} (items : List Item) (outcomes : Vec Outcome Z) : Type 0 where
+  pub none_yet : outcomes.items ≡ []
+  pub room : length (calls_in items) ≤ vec_capacity outcomes
+
 -- a Work with room for the outcomes of its calls
 abbrev pub IsRoom : Room → Type 0
-IsRoom r = r.outcomes.items ≡ replicate (length (calls_in r.work.items.items)) Stopped
+IsRoom r = HasRoomFor r.work.items.items r.outcomes
 
 -- each element of one list with that of the other at its place, which is counted from a number
 abbrev pub AllInOrder : {X Y : Type 0} → (ℕ → X → Y → Type 0) → ℕ → List X → List Y → Type 0
@@ -43,7 +49,7 @@ module _ {S Op : Type 0} (meanings : S → Meaning Op) (home : Home S) where
     pub free : IsFree e.pass
     pub right : AllByRecursion (IsRightItem (meaning_of meanings home).layout) e.work.items.items
     pub most : own_calls e.pass + length e.work.items.items ≤ 4294967295
-    pub stopped : e.outcomes.items ≡ replicate (length (calls_in e.work.items.items)) Stopped
+    pub room : HasRoomFor e.work.items.items e.outcomes
 
   -- a worker has ended
   pub record HasRun (e f : End S Op) : Type 0 where
@@ -60,7 +66,7 @@ module _ {S Op : Type 0} (meanings : S → Meaning Op) (home : Home S) where
     pub name : own_name e.pass ≡ v.name + n
     pub calls : own_calls e.pass ≡ 0
     pub view : view_of e.pass ≡ share n v
-    pub stopped : e.outcomes.items ≡ replicate (length (calls_in w.items.items)) Stopped
+    pub room : HasRoomFor w.items.items e.outcomes
 
   -- the worker of a Work has made its items in order through its pass, as far as its stop let it
   pub record HasEnded (n : ℕ) (v : View S Op) (w : Work) (e : End S Op) : Type 0 where

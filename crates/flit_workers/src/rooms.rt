@@ -2,7 +2,7 @@ ghost use Rattle.std.specs.Prelude.{◌≡◌, ℕ, ◌+◌, ◌<◌, ◌≤◌,
 ghost use Rattle.std.specs.List.{AllByRecursion};
 ghost use Rattle.flit_model.specs.declared.calls.Outcome.TheVariants.{Stopped};
 ghost use Rattle.flit_workers.specs.Works.{calls_in};
-ghost use Rattle.flit_workers.specs.Ends.{IsRoom};
+ghost use Rattle.flit_workers.specs.Ends.{HasRoomFor, IsRoom};
 
 use flit_model::{Item, Outcome, Work};
 use flit_words::NoMemory;
@@ -37,22 +37,24 @@ fn count_calls(items: &[Item]) -> usize
     count
 }
 
-// The outcomes of calls that nobody has begun.
-fn unbegun(alloc: Global, items: &[Item]) -> Result<Vec<Outcome>, NoMemory>
-    ensures { IfOk result (λ os. os.items ≡ replicate (length (calls_in items.now)) Stopped) }
+/// Puts in the outcomes of calls that nobody has begun.
+pub(crate) fn put_unbegun(items: &[Item], outcomes: &mut Vec<Outcome>)
+    requires { HasRoomFor items.now outcomes.old }
+    ensures { outcomes.new.items ≡ replicate (length (calls_in items.now)) Stopped }
 {
-    let count = count_calls(items);
-    Ok(vec![in alloc; Outcome::Stopped; count]?)
+    let Ok(()) = outcomes.resize(count_calls(items), Outcome::Stopped) else {
+        unreachable!()
+    };
 }
 
-/// Room for the outcomes of all Works.
+/// Room for the outcomes of all Works. It is filled by the workers, each in its own thread.
 pub(crate) fn rooms_for(alloc: Global, works: Vec<Work>) -> Result<Vec<Room>, NoMemory>
     ensures works { IfOk result (λ rs. map (λ r. r.work) rs.items ≡ works.items) }
     ensures rooms { IfOk result (λ rs. AllByRecursion IsRoom rs.items) }
 {
     let mut rooms = Vec::with_capacity(alloc, works.len())?;
     for work in works {
-        let outcomes = unbegun(alloc, &work.items)?;
+        let outcomes = Vec::with_capacity(alloc, count_calls(&work.items))?;
         rooms.push(Room { work, outcomes })?;
     }
     Ok(rooms)

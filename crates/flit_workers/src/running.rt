@@ -8,7 +8,7 @@ ghost use Rattle.flit_workers.specs.Ends.{AreRight, IsRoom, MayRun, HasRun, AreR
 
 use crate::ends::End;
 use crate::gates::Gate;
-use crate::rooms::{Room, rooms_for};
+use crate::rooms::{Room, put_unbegun, rooms_for};
 use crate::worker::work;
 use flit_model::Work;
 use flit_structure::Structure;
@@ -23,6 +23,7 @@ fn run_one<S: Structure, G: Gate, R: Wait>(rt: &R, running: &Running<S>, end: &m
     requires { MayRun S.meaning running.now end.old }
     ensures { HasRun S.meaning running.now end.old end.new }
 {
+    put_unbegun(&end.work.items, &mut end.outcomes);
     work(
         rt,
         running,
