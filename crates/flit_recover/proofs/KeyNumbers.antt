@@ -1,5 +1,5 @@
 -- Pairs of which each key stands once are as many as the keys of their map.
-use Rattle.std.proofs.Common.{◌≡◌, ◌≢◌, ℕ, ◌+◌, ◌≤◌, ◌==◌, false, cond, is_some, List, [], ◌∷◌, length, count_by, None, nat_cmp, refl, sym, ap, ◌∙◌, arith, eq-eqb, ne_eqb, inl, inr}
+use Rattle.std.proofs.Common.{◌≡◌, ◌≢◌, ℕ, ◌+◌, ◌==◌, false, cond, is_some, List, [], ◌∷◌, length, count_by, None, nat_cmp, refl, sym, ap, ◌∙◌, arith, eq-eqb, ne_eqb, inl, inr}
 use Rattle.std.specs.Cmp.{unsigned_tied}
 use Rattle.std.specs.FinMap as finite
 use Rattle.std.proofs.lemmas.Bool.{cases_Bool, eqb-false}
@@ -8,7 +8,7 @@ use Rattle.std.proofs.lemmas.List.{length-map}
 use Rattle.flit_words.specs.declared.layouts.Layout.{Layout}
 use Rattle.flit_words.specs.declared.layouts.Kind.TheVariants.{Tree as Tree_kind}
 use Rattle.flit_model.specs.Lists.{IsLawfulList, list_pairs, list_map, rows_on_chains}
-use Rattle.flit_model.specs.Trees.{tree_pairs, tree_map}
+use Rattle.flit_model.specs.Trees.{tree_map}
 use Rattle.flit_model.specs.Images.{Chains, Grown, free_rows}
 use Rattle.flit_model.proofs.Counting.{count_by-cons, count_by-cons_yes}
 use Rattle.flit_model.proofs.Pairs.{list_pairs_once}

@@ -6,6 +6,7 @@ pub mod ListSteps
 pub mod ListLaws
 pub mod ListWalking
 pub mod SortedPairs
+pub mod PairCounts
 pub mod MarkedRows
 pub mod Recoveries
 pub mod FirstDamages

@@ -1,7 +1,6 @@
-ghost use Rattle.std.specs.Prelude.{◌≡◌, ◌≢◌, ℕ, ◌<◌, ◌≤◌, false, length, slice_index, EachIndex, IfOk, IfErr};
-ghost use Rattle.flit_words.specs.Layouts.{Accepted, words_of, last_row_of};
+ghost use Rattle.std.specs.Prelude.{◌≡◌, ◌≢◌, ℕ, ◌<◌, false, length, slice_index, IfOk, IfErr};
+ghost use Rattle.flit_words.specs.Layouts.{Accepted, words_of};
 ghost use Rattle.flit_words.specs.Words.{is_tagged};
-ghost use Rattle.flit_model.specs.Lists.{list_pairs};
 ghost use Rattle.flit_image.specs.Images.{IsWhole, layout_of};
 ghost use Rattle.flit_recover.specs.ListWalks.{IsChainDamage};
 ghost use Rattle.flit_recover.specs.TreeWalks.{IsTreeDamage};
@@ -9,29 +8,12 @@ ghost use Rattle.flit_recover.specs.Damages.{IsWalkDamage, IsFirstDamage};
 ghost use Rattle.flit_recover.specs.KeyCounts.{HasKeys};
 
 use crate::found::Damage;
-use crate::list_walk::{is_being_removed, walk_lists};
+use crate::list_walk::walk_lists;
 use crate::recovery::check_tags;
 use crate::tree_walk::walk_tree;
 use flit_model::Image;
 use flit_words::{Kind, Layout};
 use std::alloc::Global;
-
-/// How many of these rows aren't being removed.
-fn count_left(layout: &Layout, words: &[u64], rows: &[u32]) -> usize
-    requires accepted { Accepted layout.now }
-    requires whole { length words.now ≡ words_of layout.now }
-    requires within { EachIndex rows.now (λ k. (1 ≤ slice_index rows.now k)
-        × (slice_index rows.now k ≤ last_row_of layout.now)) }
-    ensures { result ≡ length (list_pairs layout.now words.now rows.now) }
-{
-    let mut count = 0;
-    for row in rows {
-        if !is_being_removed(layout, words, *row) {
-            count += 1;
-        }
-    }
-    count
-}
 
 /// How many keys a list or a hash table has in its words, none of which has a tag.
 fn count_in_chains(alloc: Global, layout: &Layout, words: &[u64]) -> Result<usize, Damage>
@@ -44,8 +26,8 @@ fn count_in_chains(alloc: Global, layout: &Layout, words: &[u64]) -> Result<usiz
     ensures damage { IfErr result (λ d. d ≢ Damage.NoMemory →
         IsChainDamage layout.now words.now d) }
 {
-    let reached = walk_lists(alloc, layout, words)?;
-    Ok(count_left(layout, words, reached.rows.as_slice()))
+    let found = walk_lists(alloc, layout, words)?;
+    Ok(found.count)
 }
 
 /// How many keys a tree has in its words, none of which has a tag.

@@ -1,4 +1,4 @@
-ghost use Rattle.std.specs.Prelude.{◌≡◌, ◌≢◌, ℕ, ◌<◌, ◌≤◌, false, List, ◌++◌, length, slice_index, EachIndex, Some, None, IfOk, OnOk, IfErr};
+ghost use Rattle.std.specs.Prelude.{◌≡◌, ◌≢◌, ℕ, ◌<◌, ◌≤◌, false, List, [], ◌∷◌, ◌++◌, length, slice_index, EachIndex, Some, None, IfOk, OnOk, IfErr};
 ghost use Rattle.flit_words.specs.Layouts.{Accepted, words_of, last_row_of};
 ghost use Rattle.flit_words.specs.Words.{is_tagged};
 ghost use Rattle.flit_model.specs.Lists.{value_in, link_in, key_in, row_value_in, is_removed, list_pairs, IsLawfulList, rows_on_chains};
@@ -92,45 +92,86 @@ fn row_behind(
     Ok(row)
 }
 
-/// Walks the chain of a head, behind the rows that were reached before.
+/// Whether the row's own link is marked.
+fn is_being_removed(layout: &Layout, words: &[u64], row: u32) -> bool
+    requires accepted { Accepted layout.now }
+    requires whole { length words.now ≡ words_of layout.now }
+    requires above { 1 ≤ row }
+    requires within { row ≤ last_row_of layout.now }
+    ensures { result ≡ is_removed layout.now words.now row }
+{
+    link_at(words, layout.row_word(row, 1)).mark
+}
+
+/// How many keys a row counts for: one, unless it is being removed.
+fn count_row(layout: &Layout, words: &[u64], row: u32) -> usize
+    requires accepted { Accepted layout.now }
+    requires whole { length words.now ≡ words_of layout.now }
+    requires above { 1 ≤ row }
+    requires within { row ≤ last_row_of layout.now }
+    ensures { result ≡ length (list_pairs layout.now words.now (row ∷ [])) }
+{
+    usize::from(!is_being_removed(layout, words, row))
+}
+
+/// Walks the chain of a head, behind the rows that were reached before, and counts on from how many
+/// of those aren't being removed.
 fn walk_chain(
     layout: &Layout,
     words: &[u64],
     head: u32,
     reached: &mut Reached,
-) -> Result<(), Damage>
+    before: usize,
+) -> Result<usize, Damage>
     requires accepted { Accepted layout.now }
     requires chained { layout.now.kind ≢ Kind.Tree }
     requires whole { length words.now ≡ words_of layout.now }
     requires head { head < layout.now.buckets }
     requires marks { AreMarks (last_row_of layout.now) reached.old.marks.items
         reached.old.rows.items }
+    requires before { before
+        ≡ length (list_pairs layout.now words.now reached.old.rows.items) }
     ensures rows { OnOk result ((rows : List ℕ)
         × (reached.new.rows.items ≡ reached.old.rows.items ++ rows)
         × IsSoundFrom layout.now words.now head reached.old.rows.items 0 head rows) }
     ensures marks { OnOk result (AreMarks (last_row_of layout.now) reached.new.marks.items
         reached.new.rows.items) }
+    ensures count { IfOk result (λ n. n
+        ≡ length (list_pairs layout.now words.now reached.new.rows.items)) }
     ensures damage { IfErr result (λ d. d ≢ Damage.NoMemory →
         (rows : List ℕ) × IsDamagedFrom layout.now words.now head reached.old.rows.items 0 head rows
         d) }
 {
     let mut word = head;
     let mut low = 0;
+    let mut count = before;
     'chain: loop {
         let row = row_behind(layout, words, head, reached, low, word)?;
         if row == 0 {
-            return Ok(());
+            return Ok(count);
         }
         let key = value_at(words, layout.row_word(row, 0));
         reached.push(layout, row)?;
+        count += count_row(layout, words, row);
         low = key + 1;
         word = layout.row_word(row, 1);
     }
 }
 
+/// The rows that a walk over chains reached, and how many of them aren't being removed.
+#[derive(Debug, Drop)]
+pub(crate) struct ListReached {
+    pub(crate) reached: Reached,
+    pub(crate) count: usize,
+}
+
 /// Walks all chains of a list or a hash table without tags, in the order of their heads, and gives
-/// the rows on them. An error is the first damage on the chains, or NoMemory.
-pub(crate) fn walk_lists(alloc: Global, layout: &Layout, words: &[u64]) -> Result<Reached, Damage>
+/// the rows on them, counted. An error is the first damage on the chains, or NoMemory.
+pub(crate) fn walk_lists(
+    alloc: Global,
+    layout: &Layout,
+    words: &[u64],
+) -> Result<ListReached, Damage>
     requires accepted { Accepted layout.now }
     requires chained { layout.now.kind ≢ Kind.Tree }
     requires whole { length words.now ≡ words_of layout.now }
@@ -138,17 +179,20 @@ pub(crate) fn walk_lists(alloc: Global, layout: &Layout, words: &[u64]) -> Resul
         is_tagged (slice_index words.now w) ≡ false }
     ensures lawful { IfOk result (λ r. (chain : ℕ → List ℕ)
         × IsLawfulList layout.now words.now chain
-        × (r.rows.items ≡ rows_on_chains layout.now chain)) }
-    ensures marks { IfOk result (λ r. AreMarks (last_row_of layout.now) r.marks.items
-        r.rows.items) }
+        × (r.reached.rows.items ≡ rows_on_chains layout.now chain)) }
+    ensures marks { IfOk result (λ r. AreMarks (last_row_of layout.now) r.reached.marks.items
+        r.reached.rows.items) }
+    ensures count { IfOk result (λ r. r.count
+        ≡ length (list_pairs layout.now words.now r.reached.rows.items)) }
     ensures damage { IfErr result (λ d. d ≢ Damage.NoMemory →
         IsChainDamage layout.now words.now d) }
 {
     let mut reached = Reached::new(alloc, layout)?;
+    let mut count = 0;
     for head in 0..layout.buckets {
-        walk_chain(layout, words, head, &mut reached)?;
+        count = walk_chain(layout, words, head, &mut reached, count)?;
     }
-    Ok(reached)
+    Ok(ListReached { reached, count })
 }
 
 pub(crate) fn key_at(layout: &Layout, words: &[u64], row: u32) -> u32
@@ -175,23 +219,13 @@ pub(crate) fn row_value_at(layout: &Layout, words: &[u64], row: u32) -> u32
     }
 }
 
-/// Whether the row's own link is marked.
-pub(crate) fn is_being_removed(layout: &Layout, words: &[u64], row: u32) -> bool
-    requires accepted { Accepted layout.now }
-    requires whole { length words.now ≡ words_of layout.now }
-    requires above { 1 ≤ row }
-    requires within { row ≤ last_row_of layout.now }
-    ensures { result ≡ is_removed layout.now words.now row }
-{
-    link_at(words, layout.row_word(row, 1)).mark
-}
-
-/// The keys with their values of the rows that aren't being removed.
+/// The keys with their values of the rows that aren't being removed, with room for so many.
 pub(crate) fn pairs_of_rows(
     alloc: Global,
     layout: &Layout,
     words: &[u64],
     rows: &[u32],
+    room: usize,
 ) -> Result<Vec<(u32, u32)>, Damage>
     requires accepted { Accepted layout.now }
     requires whole { length words.now ≡ words_of layout.now }
@@ -200,7 +234,7 @@ pub(crate) fn pairs_of_rows(
     ensures pairs { IfOk result (λ p. p.items ≡ list_pairs layout.now words.now rows.now) }
     ensures err { IfErr result (λ d. d ≡ Damage.NoMemory) }
 {
-    let mut pairs = Vec::new(alloc);
+    let mut pairs = Vec::with_capacity(alloc, room)?;
     for row in rows {
         let row = *row;
         if !is_being_removed(layout, words, row) {

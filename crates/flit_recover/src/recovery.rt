@@ -103,10 +103,11 @@ fn recover_chains(alloc: Global, layout: &Layout, words: &[u64]) -> Result<Holdi
     ensures damage { IfErr result (λ d. d ≢ Damage.NoMemory →
         IsChainDamage layout.now words.now d) }
 {
-    let reached = walk_lists(alloc, layout, words)?;
-    let mut pairs = pairs_of_rows(alloc, layout, words, reached.rows.as_slice())?;
+    let found = walk_lists(alloc, layout, words)?;
+    let rows = found.reached.rows.as_slice();
+    let mut pairs = pairs_of_rows(alloc, layout, words, rows, found.count)?;
     sort_pairs(&mut pairs);
-    assemble(alloc, layout, &reached, pairs.as_slice())
+    assemble(alloc, layout, &found.reached, pairs.as_slice())
 }
 
 /// Recovers a tree from its words, none of which has a tag.

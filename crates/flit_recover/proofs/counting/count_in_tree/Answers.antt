@@ -1,4 +1,4 @@
-use Rattle.std.proofs.Common.{◌≡◌, length, vec_len, arith}
+use Rattle.std.proofs.Common.{◌≡◌, length, arith}
 use Rattle.std.proofs.lemmas.Grind.{common_steps}
 use Rattle.flit_recover.proofs.KeyNumbers.{tree_has}
 use Rattle.flit_recover.proofs.counting.count_in_tree.Goals as goal

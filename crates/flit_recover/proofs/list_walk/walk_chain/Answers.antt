@@ -1,9 +1,10 @@
 -- The walk over a chain goes on behind what was walked, and ends with nothing wrong or with the damage of its last word.
-use Rattle.std.proofs.Common.{◌≡◌, ◌≢◌, ℕ, ◌+◌, List, sym, ap, subst, ◌∙◌, arith}
+use Rattle.std.proofs.Common.{◌≡◌, ◌≢◌, ℕ, ◌+◌, List, [], ◌∷◌, length, sym, ap, subst, ◌∙◌, arith}
 use Rattle.std.proofs.lemmas.Result.{err_from_is_err_and}
-use Rattle.flit_model.specs.Lists.{value_in, key_in, link_in}
+use Rattle.flit_model.specs.Lists.{value_in, key_in, link_in, list_pairs}
 use Rattle.flit_recover.proofs.ListSteps.{MayFollow, sound_row}
 use Rattle.flit_recover.proofs.ListWalking.{IsWalked, walked_more, walked_to_end, walked_to_damage}
+use Rattle.flit_recover.proofs.PairCounts.{pairs_more, pairs_at_most}
 use Rattle.flit_recover.proofs.list_walk.walk_chain.Goals as goal
 
 pub returns-in_err-row-clause-damage : goal.returns-in_err-row-clause-damage
@@ -42,4 +43,16 @@ chain-preserved c =
       marks = c.in_ok-push.ensures.marks;
       within = c.row_word-word.ensures.below;
       low = omega (arith, key, most);
+      counted = ap (λ n. n + c.count_row-count.result) c.chain.invariant.counted ∙ ap (λ n. length (list_pairs l image rows) + n) c.count_row-count.ensures
+          ∙ sym (pairs_more l image rows row) ∙ ap (λ (rs : List ℕ). length (list_pairs l image rs)) (sym c.in_ok-push.ensures.rows);
     }
+
+pub overflow_add-count : goal.overflow_add-count
+overflow_add-count c =
+    let l = c.args.layout.now in
+    let image = c.args.words.now in
+    let rows = c.chain.reached.rows in
+    let row = c.in_ok-row.row in
+    let one = c.count_row-count.ensures in
+    let counted = c.chain.invariant.counted in
+    omega (arith, one, counted, pairs_at_most l image rows.items, pairs_at_most l image (row ∷ []), rows.ok.0)

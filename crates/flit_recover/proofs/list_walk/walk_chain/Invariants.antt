@@ -1,5 +1,6 @@
-use Rattle.std.proofs.Common.{◌<◌, ◌≤◌, ◌-◌}
+use Rattle.std.proofs.Common.{◌≡◌, ◌<◌, ◌≤◌, ◌-◌, length}
 use Rattle.flit_words.specs.Layouts.{words_of, last_row_of}
+use Rattle.flit_model.specs.Lists.{list_pairs}
 use Rattle.flit_recover.specs.Marks.{AreMarks}
 use Rattle.flit_recover.proofs.ListWalking.{IsWalked}
 use Rattle.flit_recover.proofs.list_walk.walk_chain.Given as goal
@@ -10,6 +11,7 @@ invariant-chain l = record {
   marks : AreMarks (last_row_of l.layout) l.reached.marks.items l.reached.rows.items;
   within : l.word < words_of l.layout;
   low : l.low ≤ 4294967293;
+  counted : l.count ≡ length (list_pairs l.layout l.words l.reached.rows.items);
 }
 
 -- the keys rise
