@@ -113,6 +113,10 @@ begins St seat op path word same at =
       follows = becomes still (looking op path.back path.pred path.next word) (sym here);
     }
 
+pub along_none : {Run Seat : Type 0} {St : Run → Seat → HeldOp → ℕ → Type 0} {seat : Seat} {op : HeldOp} {back : Option LinkWord} {pred : LinkWord}
+    {word none : ℕ} → none ≡ 0 → IsAlong St seat op seat op back pred word 0 → IsAlong St seat op seat op back pred word none
+along_none {St = St} {seat} {op} {back} {pred} {word} none along = subst (IsAlong St seat op seat op back pred word) (sym none) along
+
 -- the path put back
 pub put_back : (op : HeldOp) (call : Call) (reply : Reply) (hand : Hand) (back : Option LinkWord) (pred : LinkWord) (word : ℕ) (load : VLoad) →
     call ≡ op.call → reply ≡ op.reply → hand ≡ hand_at op.at → load ≡ v_load_begun word →
@@ -154,8 +158,8 @@ module _ {Run Seat : Type 0} {St : Run → Seat → HeldOp → ℕ → Type 0} {
   pub stops_further : 0 < n → (now : HeldOp) → looking op back pred pred word ≡ now → Follows St seat0 first seat now n
   stops_further some now is = becomes along.follows now (ap (λ next. looking op back pred next word) (along.is_last some) ∙ is)
 
-  pub stops_at_once : n ≡ 0 → Follows St seat0 first seat op n
-  stops_at_once none = becomes along.follows op (along.is_first none)
+  pub stops_at_once : n ≡ 0 → Follows St seat0 first seat op 0
+  stops_at_once none = subst (λ k. Follows St seat0 first seat op k) none (becomes along.follows op (along.is_first none))
 
   module _ {P : Type 0} (place_of : P → Place) (s : List P) {M : Meaning HeldOp} (alike : MeanAlike M (list_of place_of s)) where
     here_asked : M.asked (looking op back pred along.next word) ≡ Some (Load word)

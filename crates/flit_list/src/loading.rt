@@ -50,7 +50,9 @@ impl<P: Placement + Drop> List<P> {
     /// Goes along the list, from the load of this link word on, as far as so many loads allow, and
     /// answers how many were made. The path stands in variables meanwhile, so that a row costs its
     /// two loads and little else.
-    #[inline(always)]
+    // It stays a function of its own: inside its caller the loop's variables find too few registers,
+    // and a row costs more by a half.
+    #[inline(never)]
     pub(crate) fn goes_along<L: Loader<ListOp>>(
         &self,
         op: &mut ListOp,
@@ -70,35 +72,37 @@ impl<P: Placement + Drop> List<P> {
         let wanted = key_of(op.call);
         let mut back = op.path.back;
         let mut pred = op.path.pred;
-        let mut made = 0;
-        while most - made >= 2 {
-            let row = link_of(pred.raw).row;
+        let mut row = link_of(pred.raw).row;
+        let mut left = most;
+        while left >= 2 {
             let raw = loader.load(seat, word);
             let next = loaded(word, raw);
             let link = link_of(raw);
             if link.mark {
                 self.leaves(op, Path { back, pred, next }, Goal::Help);
-                return made + 1;
+                return most - left + 1;
             }
             let key = Word::unpack(loader.load(seat, self.key_word(row))).value;
-            made += 2;
+            left -= 2;
             if wanted <= key {
                 self.leaves(op, Path { back, pred, next }, goal_at(key, wanted));
-                return made;
+                return most - left;
             }
             back = Some(pred);
             pred = next;
-            if link.row == 0 {
+            row = link.row;
+            if row == 0 {
                 self.leaves(op, Path { back, pred, next }, Goal::Absent);
-                return made;
+                return most - left;
             }
-            word = self.link_word(link.row);
+            word = self.link_word(row);
         }
-        if made > 0 {
-            let next = pred;
-            op.path = Path { back, pred, next };
-            op.at = Phase::Next(VLoad::start(word));
+        if left == most {
+            return 0;
         }
-        made
+        let next = pred;
+        op.path = Path { back, pred, next };
+        op.at = Phase::Next(VLoad::start(word));
+        most - left
     }
 }

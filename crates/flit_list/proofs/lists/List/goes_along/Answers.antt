@@ -1,8 +1,8 @@
-use Rattle.std.proofs.Common.{◌≡◌, ◌+◌, arith, sym, ap, ◌∙◌}
+use Rattle.std.proofs.Common.{◌≡◌, ◌+◌, ◌-◌, arith, sym, ap, ◌∙◌}
 use Rattle.flit_structure.specs.Meanings.{key_of}
-use Rattle.flit_list_steps.specs.Steps.{hand_at, key_word, FitsLink}
+use Rattle.flit_list_steps.specs.Steps.{hand_at, key_word, row_of, FitsLink}
 use Rattle.flit_list_steps.specs.Phases.{same_hand}
-use Rattle.flit_list.proofs.AlongRows.{IsLoad, HasLink, IsAtKey, HasKey, begins, put_back, stops_further, stops_at_once, row_fits, link_loaded}
+use Rattle.flit_list.proofs.AlongRows.{IsLoad, HasLink, IsAtKey, HasKey, begins, put_back, stops_further, stops_at_once, row_fits, link_loaded, along_none}
 use Rattle.flit_list.proofs.AlongRows.{row_marked, row_unmarked, key_comes, key_loaded, row_ends, row_last, row_further}
 use Rattle.flit_list.proofs.lists.List.goes_along.Given.{Over}
 use Rattle.flit_list.proofs.lists.List.goes_along.Goals as goal
@@ -11,42 +11,43 @@ use Rattle.flit_list.proofs.lists.List.goes_along.Goals.{After-loaded-next, Afte
 -- ---- the row that is looked at
 
 first_load : (g : Over) (c : After-loaded-next g) → IsLoad (g.L.Loader.stands c.args.loader.now) (g.L.Loader.meaning c.args.loader.now)
-    c.loop-made.word c.loop-made.seat c.load-raw.result c.load-raw.new.seat
+    c.loop-left.word c.loop-left.seat c.load-raw.result c.load-raw.new.seat
 first_load g c = record { may = c.load-raw.ensures.may; stands = c.load-raw.ensures.stands }
 
-fits : (g : Over) (c : After-loaded-next g) → FitsLink (hand_at c.loop-made.op.at)
-fits g c = row_fits c.loop-made.invariant.along g.P.Placement.place c.args.self.now c.requires.alike (first_load g c) c.requires.stands
+fits : (g : Over) (c : After-loaded-next g) → FitsLink (hand_at c.loop-left.op.at)
+fits g c = row_fits c.loop-left.invariant.along g.P.Placement.place c.args.self.now c.requires.alike (first_load g c) c.requires.stands
 
 link : (g : Over) (c : After-loaded-next g) → HasLink g.P.Placement.place c.args.self.now (g.L.Loader.stands c.args.loader.now) c.args.seat.now c.args.op.now
-    c.load-raw.new.seat c.loop-made.op c.loop-made.back c.loop-made.pred c.loaded-next.result c.load-raw.result (c.loop-made.made + 1)
-link g c = link_loaded c.loop-made.invariant.along g.P.Placement.place c.args.self.now c.requires.alike (first_load g c) c.loaded-next.ensures
+    c.load-raw.new.seat c.loop-left.op c.loop-left.back c.loop-left.pred c.loaded-next.result c.load-raw.result (c.args.most - c.loop-left.left + 1)
+link g c = link_loaded c.loop-left.invariant.along g.P.Placement.place c.args.self.now c.requires.alike (first_load g c) c.loaded-next.ensures
 
 at_key : (g : Over) (c : After-key_word g) → HasLink g.P.Placement.place c.args.self.now (g.L.Loader.stands c.args.loader.now) c.args.seat.now c.args.op.now
-    c.load-raw.new.seat c.loop-made.op c.loop-made.back c.loop-made.pred c.loaded-next.result c.load-raw.result (c.loop-made.made + 1) →
-    IsAtKey (g.L.Loader.stands c.args.loader.now) c.args.seat.now c.args.op.now c.load-raw.new.seat c.loop-made.op c.loop-made.back c.loop-made.pred
-    c.loaded-next.result c.key_word.result (c.loop-made.made + 1)
+    c.load-raw.new.seat c.loop-left.op c.loop-left.back c.loop-left.pred c.loaded-next.result c.load-raw.result (c.args.most - c.loop-left.left + 1) →
+    IsAtKey (g.L.Loader.stands c.args.loader.now) c.args.seat.now c.args.op.now c.load-raw.new.seat c.loop-left.op c.loop-left.back c.loop-left.pred
+    c.loaded-next.result c.key_word.result (c.args.most - c.loop-left.left + 1)
 at_key g c has = row_unmarked has c.link_of-link.ensures.is c.if-link.false
-    (c.key_word.ensures.is ∙ ap (λ k. key_word c.args.self.now.layout k.row) c.link_of-row.ensures.is)
+    (c.key_word.ensures.is ∙ ap (key_word c.args.self.now.layout) c.loop-left.invariant.row)
 
-key : (g : Over) (c : After-unpack-key g) → IsAtKey (g.L.Loader.stands c.args.loader.now) c.args.seat.now c.args.op.now c.load-raw.new.seat c.loop-made.op
-    c.loop-made.back c.loop-made.pred c.loaded-next.result c.key_word.result (c.loop-made.made + 1) →
-    HasKey g.P.Placement.place c.args.self.now (g.L.Loader.stands c.args.loader.now) c.args.seat.now c.args.op.now c.load.new.seat c.loop-made.op
-    c.loop-made.back c.loop-made.pred c.loaded-next.result c.unpack-key.result.value (c.loop-made.made + 2)
+key : (g : Over) (c : After-unpack-key g) → IsAtKey (g.L.Loader.stands c.args.loader.now) c.args.seat.now c.args.op.now c.load-raw.new.seat c.loop-left.op
+    c.loop-left.back c.loop-left.pred c.loaded-next.result c.key_word.result (c.args.most - c.loop-left.left + 1) →
+    HasKey g.P.Placement.place c.args.self.now (g.L.Loader.stands c.args.loader.now) c.args.seat.now c.args.op.now c.load.new.seat c.loop-left.op
+    c.loop-left.back c.loop-left.pred c.loaded-next.result c.unpack-key.result.value (c.args.most - (c.loop-left.left - 2))
 key g c at =
     let load : IsLoad (g.L.Loader.stands c.args.loader.now) (g.L.Loader.meaning c.args.loader.now) c.key_word.result c.load-raw.new.seat
     c.load.result c.load.new.seat = record { may = c.load.ensures.may; stands = c.load.ensures.stands } in
     key_loaded at g.P.Placement.place c.args.self.now c.requires.alike load (ap (λ w. w.value) c.unpack-key.ensures.is) (omega arith)
 
-wanted : (g : Over) (c : After-loaded-next g) → c.key_of-wanted.result ≡ key_of c.loop-made.op.call
-wanted g c = c.key_of-wanted.ensures ∙ ap (λ o. key_of o.call) (c.op.view_is ∙ sym c.loop-made.invariant.along.same)
+wanted : (g : Over) (c : After-loaded-next g) → c.key_of-wanted.result ≡ key_of c.loop-left.op.call
+wanted g c = c.key_of-wanted.ensures ∙ ap (λ o. key_of o.call) (c.op.view_is ∙ sym c.loop-left.invariant.along.same)
 
 -- ---- the goals
 
-pub loop-made-init : goal.loop-made-init
-loop-made-init g c = record {
+pub loop-left-init : goal.loop-left-init
+loop-left-init g c = record {
   most = omega arith;
-  along = begins (g.L.Loader.stands c.args.loader.now) c.args.seat.now c.args.op.now c.op.inside.path c.args.word
-      (ap (λ o. o.path) (sym c.op.view_is)) c.requires.at;
+  row = ap (λ k. k.row) c.link_of-row.ensures.is;
+  along = along_none (omega arith) (begins (g.L.Loader.stands c.args.loader.now) c.args.seat.now c.args.op.now c.op.inside.path c.args.word
+      (ap (λ o. o.path) (sym c.op.view_is)) c.requires.at);
 }
 
 pub leaves-requires : goal.leaves-requires
@@ -71,31 +72,32 @@ returns-then-wanted-key-clause-stands g c =
     let has = key g before.After-unpack-key (at_key g before.After-key_word (link g before.After-loaded-next)) in
     (row_ends has (wanted g before.After-loaded-next) c.if-wanted-key.true c.goal_at.ensures c.leaves-then-wanted-key.ensures).goes
 
-pub leaves-requires-then-link-eq0 : goal.leaves-requires-then-link-eq0
-leaves-requires-then-link-eq0 g c = fits g (goal.at.leaves-requires-then-link-eq0 g c).After-loaded-next
+pub leaves-requires-then-row-eq0 : goal.leaves-requires-then-row-eq0
+leaves-requires-then-row-eq0 g c = fits g (goal.at.leaves-requires-then-row-eq0 g c).After-loaded-next
 
-pub returns-then-link-eq0-clause-stands : goal.returns-then-link-eq0-clause-stands
-returns-then-link-eq0-clause-stands g c =
-    let before = goal.at.returns-then-link-eq0-clause-stands g c in
+pub returns-then-row-eq0-clause-stands : goal.returns-then-row-eq0-clause-stands
+returns-then-row-eq0-clause-stands g c =
+    let before = goal.at.returns-then-row-eq0-clause-stands g c in
     let has = key g before.After-unpack-key (at_key g before.After-key_word (link g before.After-loaded-next)) in
-    (row_last has (wanted g before.After-loaded-next) c.if-wanted-key.false c.loaded-next.ensures c.link_of-link.ensures.is c.if-link-eq0.true
-    c.leaves-then-link-eq0.ensures).goes
+    (row_last has (wanted g before.After-loaded-next) c.if-wanted-key.false c.loaded-next.ensures c.link_of-link.ensures.is c.if-row-eq0.true
+    c.leaves-then-row-eq0.ensures).goes
 
-pub loop-made-preserved : goal.loop-made-preserved
-loop-made-preserved g c =
-    let before = goal.at.loop-made-preserved g c in
+pub loop-left-preserved : goal.loop-left-preserved
+loop-left-preserved g c =
+    let before = goal.at.loop-left-preserved g c in
     let has = key g before.After-unpack-key (at_key g before.After-key_word (link g before.After-loaded-next)) in record {
       most = omega arith;
-      along = row_further has (wanted g before.After-loaded-next) c.if-wanted-key.false c.loaded-next.ensures c.link_of-link.ensures.is c.if-link-eq0.false
-          c.link_word-word.ensures c.loop-made.invariant.along.same (omega arith);
+      row = ap (λ k. k.row) c.link_of-link.ensures.is ∙ ap (λ x. row_of x.raw) (sym c.loaded-next.ensures);
+      along = row_further has (wanted g before.After-loaded-next) c.if-wanted-key.false c.loaded-next.ensures c.link_of-link.ensures.is c.if-row-eq0.false
+          c.link_word-word.ensures c.loop-left.invariant.along.same (omega arith);
     }
 
-pub returns-then-made-gt0-clause-stands : goal.returns-then-made-gt0-clause-stands
-returns-then-made-gt0-clause-stands g c =
-    let hand = sym (same_hand c.op-2.inside.hand c.op-2.inside.store c.op-2.inside.at) ∙ ap (λ o. hand_at o.at) c.op-2.view_is in
-    (stops_further c.loop-made.invariant.along c.if-made-gt0.true _
-    (put_back c.loop-made.op c.op-2.inside.call c.op-2.inside.reply c.op-2.inside.hand c.loop-made.back c.loop-made.pred c.loop-made.word c.start.result
-    (ap (λ o. o.call) c.op-2.view_is) (ap (λ o. o.reply) c.op-2.view_is) hand c.start.ensures)).goes
+pub returns-then-left-most-clause-stands : goal.returns-then-left-most-clause-stands
+returns-then-left-most-clause-stands g c = (stops_at_once c.loop-left.invariant.along (omega arith)).goes
 
-pub returns-else-made-gt0-clause-stands : goal.returns-else-made-gt0-clause-stands
-returns-else-made-gt0-clause-stands g c = (stops_at_once c.loop-made.invariant.along (omega arith)).goes
+pub returns-clause-stands : goal.returns-clause-stands
+returns-clause-stands g c =
+    let hand = sym (same_hand c.op-2.inside.hand c.op-2.inside.store c.op-2.inside.at) ∙ ap (λ o. hand_at o.at) c.op-2.view_is in
+    (stops_further c.loop-left.invariant.along (omega (arith, c.if-left-most.false)) _
+    (put_back c.loop-left.op c.op-2.inside.call c.op-2.inside.reply c.op-2.inside.hand c.loop-left.back c.loop-left.pred c.loop-left.word c.start.result
+    (ap (λ o. o.call) c.op-2.view_is) (ap (λ o. o.reply) c.op-2.view_is) hand c.start.ensures)).goes
