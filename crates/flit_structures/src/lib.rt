@@ -16,4 +16,4 @@ pub use laws::{
 pub use reports::told;
 pub use runs::{Wanted, image_of_run, text_of_run};
 pub use starts::fresh_start;
-pub use texts::{NoText, owned_trace_and_start, owned_trace_of, start_in, text_of_trace, trace_of};
+pub use texts::{NoText, owned_trace_of, start_in, text_of_trace};

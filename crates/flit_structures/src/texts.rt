@@ -51,11 +51,9 @@ fn is_played(place: Place) -> bool
     }
 }
 
-/// The trace that the bytes are, if it is played.
-///
-/// # Errors
-/// The first fault of the bytes, then Unplayable. NoMemory may come in the place of each.
-pub fn trace_of(alloc: Global, bytes: &[u8]) -> Result<Trace<'_>, NoText>
+/// The trace that the bytes are, if it is played. An error is the first fault of the bytes, then
+/// Unplayable. NoMemory may come in the place of each.
+fn trace_of(alloc: Global, bytes: &[u8]) -> Result<Trace<'_>, NoText>
     ensures read { IfOk result (IsReadAs bytes.now) }
     ensures playable { IfOk result (λ trace. IsPlayable trace.head) }
     ensures none { IfErr result (HasNoText bytes.now) }
@@ -75,10 +73,10 @@ pub fn trace_of(alloc: Global, bytes: &[u8]) -> Result<Trace<'_>, NoText>
     Ok(trace)
 }
 
-/// The same of bytes that are let go.
+/// The trace that the bytes are, if it is played. The bytes are let go.
 ///
 /// # Errors
-/// Those of `trace_of`, in the same order.
+/// The first fault of the bytes, then Unplayable. NoMemory may come in the place of each.
 pub fn owned_trace_of(alloc: Global, bytes: Vec<u8>) -> Result<Trace<'static>, NoText>
     ensures read { IfOk result (IsReadAs bytes.items) }
     ensures playable { IfOk result (λ trace. IsPlayable trace.head) }
@@ -105,10 +103,8 @@ pub fn start_in(alloc: Global, trace: &Trace) -> Result<Recovered, NoText>
     }
 }
 
-/// The trace that the bytes are, and what recovery finds where it starts.
-///
-/// # Errors
-/// Those of `trace_of`, then those of `start_in`.
+/// The trace that the bytes are, and what recovery finds where it starts. The errors are those of
+/// `trace_of`, then those of `start_in`.
 fn trace_and_start(alloc: Global, bytes: &[u8]) -> Result<(Trace<'_>, Recovered), NoText>
     ensures read { IfOk result (λ found. IsReadAs bytes.now found.0) }
     ensures playable { IfOk result (λ found. IsPlayable found.0.head) }
@@ -121,10 +117,7 @@ fn trace_and_start(alloc: Global, bytes: &[u8]) -> Result<(Trace<'_>, Recovered)
 }
 
 /// The same of bytes that are let go.
-///
-/// # Errors
-/// Those of `trace_of`, then those of `start_in`.
-pub fn owned_trace_and_start(
+fn owned_trace_and_start(
     alloc: Global,
     bytes: Vec<u8>,
 ) -> Result<(Trace<'static>, Recovered), NoText>
@@ -141,7 +134,7 @@ pub fn owned_trace_and_start(
 /// lines are given, and then each worker runs until it is out. The bytes are let go before the run.
 ///
 /// # Errors
-/// Those of `trace_of`, then those of `start_in`.
+/// Those of `owned_trace_of`, then those of `start_in`.
 pub fn text_of_trace(alloc: Global, bytes: Vec<u8>, wanted: Wanted) -> Result<Vec<u8>, NoText>
     ensures text { IfOk result (λ text. IsTextOf bytes.items wanted text.items) }
     ensures none { IfErr result (HasNoText bytes.items) }
