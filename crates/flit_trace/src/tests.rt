@@ -213,14 +213,39 @@ const READ: [&[u8]; 14] = [
     b"flit 2\nstructure list\nrows 1\nworkers 1\nversions 3\nstart 2\nbegin\nend\n",
 ];
 
-const VALUED: &[u8] =
-    b"flit 2\nstructure list\nrows 4\nworkers 1\n1 insert 5 70\n1 insert 5 80\n1 get 5\n1 get 6\nend\n";
+/// Traces that have no start image.
+const HEADED: [&[u8]; 5] = [
+    b"flit 1\nstructure list\nrows 4\nworkers 2\nend",
+    b"#\n\nflit 2\n# 1\nstructure hash 3\n\nplace hashed 9\nrows 5\nworkers 2\n#\n1 get 5\nend\n",
+    b"flit 1\nstructure tree\nplace packed\nrows 6\nworkers 3\n\nversions 7\nahead all\nend\n",
+    b"flit 2\nstructure tree\nplace lines\nrows 7\nworkers 64\nversions 3\nstop 1 0\nend\n",
+    b"flit 2\nstructure list\nplace adjacent\nrows 2\nworkers 1\n1 insert 5 7\n1 get 5\nend\n",
+];
 
-const STARTED: &[u8] =
-    b"flit 2\nstructure list\nrows 4\nworkers 1\nstart 1\nword 0 3:8\nword 1 1:5\nword 2 2:1\nword 3 1:5\nword 4 1:0\nbegin\n1 get 5\n1 insert 6 9\nend\n";
+/// Texts that have a start block, or whose lines up to the body's first aren't right, or aren't all
+/// there.
+const UNTOLD: [&[u8]; 9] = [
+    b"",
+    b"flit 3\nstructure list\nrows 4\nworkers 2\nend\n",
+    b"flit 1\nstructure list\nrows 4\nend\n",
+    b"flit 1\nstructure list\nrows 1048576\nworkers 2\nend\n",
+    b"flit 1\nstructure list\n# \x80\nrows 4\nworkers 2\nend\n",
+    b"flit 1\nstructure list\nrows 4\nworkers 2\nversions 7\n# 1\n",
+    b"flit 1\nstructure list\nrows 4\nworkers 2\n3 insert 5\nend\n",
+    b"flit 2\nstructure list\nrows 1\nworkers 1\nstart 1\nbegin\nend\n",
+    b"flit 2\nstructure list\nrows 1\nworkers 1\nversions 3\nstart 2\nbegin\n1 get 5\nend\n",
+];
 
-const BUSY: &[u8] =
-    b"flit 1\nstructure hash 3\nplace lines\nrows 5\nworkers 2\nversions 7\n2 insert 5\n# 1\n1 evict 12\nturn 2 3\n2 remove 6\nstop 2 0\nahead 3\nturn 1 1\n1 contains 7\nahead 0\nend\n";
+const VALUED: &[u8] = b"flit 2\nstructure list\nrows 4\nworkers 1\n\
+      1 insert 5 70\n1 insert 5 80\n1 get 5\n1 get 6\nend\n";
+
+const STARTED: &[u8] = b"flit 2\nstructure list\nrows 4\nworkers 1\n\
+      start 1\nword 0 3:8\nword 1 1:5\nword 2 2:1\nword 3 1:5\nword 4 1:0\nbegin\n\
+      1 get 5\n1 insert 6 9\nend\n";
+
+const BUSY: &[u8] = b"flit 1\nstructure hash 3\nplace lines\nrows 5\nworkers 2\nversions 7\n\
+      2 insert 5\n# 1\n1 evict 12\nturn 2 3\n2 remove 6\nstop 2 0\nahead 3\nturn 1 1\n\
+      1 contains 7\nahead 0\nend\n";
 
 #[test]
 fn bad_lines_are_named(rt: HostRuntime) {
@@ -256,6 +281,22 @@ fn numbers_past_limits_are_named(rt: HostRuntime) {
 fn traces_are_read(rt: HostRuntime) {
     for text in READ {
         assert!(rt; read_trace(rt.alloc(), text).is_ok());
+    }
+}
+
+#[test]
+fn a_head_is_told_ahead(rt: HostRuntime) -> Result<(), Fail> {
+    for text in HEADED {
+        let trace = read_trace(rt.alloc(), text)?;
+        assert_eq!(rt; head_ahead(text), Some(trace.head()));
+    }
+    Ok(())
+}
+
+#[test]
+fn no_head_is_told(rt: HostRuntime) {
+    for text in UNTOLD {
+        assert!(rt; head_ahead(text).is_none());
     }
 }
 
