@@ -70,7 +70,9 @@ def build_plain(folder):
         made[name] = [program]
         if source == 'pmem_set.cpp':
             place = '/dev/shm' if os.path.isdir('/dev/shm') else folder
-            made[name] = ['env', 'PMEM_IS_PMEM_FORCE=1', program, os.path.join(place, 'flit_bench_%d.pool' % os.getpid())]
+            words = [program, os.path.join(place, 'flit_bench_%d.pool' % os.getpid())]
+            made[name] = ['env', 'PMEM_IS_PMEM_FORCE=1'] + words
+            made[name + ', msync'] = words
     return made
 
 
