@@ -51,7 +51,7 @@ impl<P: Placement + Drop> List<P> {
     /// answers how many were made. The path stands in variables meanwhile, so that a row costs its
     /// two loads and little else.
     // It stays a function of its own: inside its caller the loop's variables find too few registers,
-    // and a row costs more by a half.
+    // and a row costs a fifth more.
     #[inline(never)]
     pub(crate) fn goes_along<L: Loader<ListOp>>(
         &self,
